@@ -1,0 +1,4 @@
+-- Trees and their law.
+pub mod Forest
+pub mod Laws
+pub mod Questions
