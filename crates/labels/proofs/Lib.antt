@@ -1,0 +1,9 @@
+-- The proofs.
+pub mod Chains
+pub mod Wholes
+pub mod Faults
+pub mod Reading
+pub mod Halving
+pub mod Rules
+pub mod Judging
+pub mod Naming

@@ -1,0 +1,4 @@
+-- Label books.
+pub mod Entries
+pub mod Laws
+pub mod Index

@@ -1,0 +1,2 @@
+-- Records: a length, a kind and a content.
+pub mod Heads
