@@ -1,7 +1,6 @@
 // What a call answers when it refuses: the cause, the layer that found it, the byte and the steps.
 ghost use mathlib.Core.Path.{_≡_};
 ghost use Rattle.refusals.specs.Numbers.{cause-number, layer-number, refused};
-use std::fmt;
 
 /// Why a call was refused. The number of each case is part of the format of a refusal.
 #[derive(Clone, Copy, PartialEq, Eq, Debug)]
@@ -54,31 +53,6 @@ impl Cause {
     {
         self as u8
     }
-
-    /// The cause in words.
-    pub fn words(self) -> &'static str {
-        match self {
-            Cause::WrongClick => "wrong click",
-            Cause::ClickOpen => "click open",
-            Cause::Stale => "stale",
-            Cause::NoSuchPattern => "no such pattern",
-            Cause::NoSuchPlace => "no such place",
-            Cause::ShelfFull => "shelf full",
-            Cause::JournalFull => "journal full",
-            Cause::NothingToUndo => "nothing to undo",
-            Cause::BadLength => "bad length",
-            Cause::BadLabel => "bad label",
-            Cause::BadName => "bad name",
-            Cause::BadText => "bad text",
-            Cause::UnknownName => "unknown name",
-            Cause::Unpaired => "unpaired",
-            Cause::OneTree => "one tree",
-            Cause::TooMany => "too many",
-            Cause::NoRoom => "no room",
-            Cause::NoMatch => "no match",
-            Cause::NoMemory => "no memory",
-        }
-    }
 }
 
 impl Layer {
@@ -101,5 +75,19 @@ impl Refusal {
             byte,
             steps: 0,
         }
+    }
+}
+
+#[cfg(test)]
+mod tests {
+    use super::*;
+    use std::test::*;
+
+    #[test]
+    fn numbers_of_causes() -> Result<(), Fail> {
+        check_eq(Cause::WrongClick.number(), 1)?;
+        check_eq(Cause::NoMatch.number(), 18)?;
+        check_eq(Cause::NoMemory.number(), 27)?;
+        check_eq(Layer::Session.number(), 6)
     }
 }

@@ -1,0 +1,64 @@
+// Operands of a command: numbers and hexadecimal bytes.
+use std::alloc::AllocError;
+use std::alloc::Global;
+
+/// A text up to its first space, and what stands behind that space.
+pub(crate) fn split_word(text: &[u8]) -> (&[u8], Option<&[u8]>) {
+    for (i, byte) in text.iter().enumerate() {
+        if *byte == b' ' {
+            return (&text[0..i], Some(&text[i + 1..]));
+        }
+    }
+    (text, None)
+}
+
+/// A number of 1 to 10 digits that fits 32 bits.
+pub(crate) fn read_number(text: &[u8]) -> Option<u32> {
+    if text.is_empty() || text.len() > 10 {
+        return None;
+    }
+    let mut value = 0u64;
+    for byte in text {
+        let digit = match *byte {
+            b'0'..=b'9' => u64::from(*byte - b'0'),
+            _ => return None,
+        };
+        value = value.saturating_mul(10).saturating_add(digit);
+    }
+    u32::try_from(value).ok()
+}
+
+fn read_digit(byte: u8) -> Option<u8> {
+    match byte {
+        b'0'..=b'9' => Some(byte - b'0'),
+        b'a'..=b'f' => Some(byte - b'a' + 10),
+        b'A'..=b'F' => Some(byte - b'A' + 10),
+        _ => None,
+    }
+}
+
+/// Bytes as pairs of hexadecimal digits, with spaces between pairs.
+pub(crate) fn read_hex(heap: Global, text: &[u8]) -> Result<Option<Vec<u8>>, AllocError> {
+    let mut bytes = Vec::new(heap);
+    let mut high = None;
+    for byte in text {
+        let digit = read_digit(*byte);
+        match (high, digit) {
+            (None, None) => {
+                if *byte != b' ' {
+                    return Ok(None);
+                }
+            }
+            (None, Some(_)) => high = digit,
+            (Some(_), None) => return Ok(None),
+            (Some(first), Some(second)) => {
+                bytes.push((first << 4) | second)?;
+                high = None;
+            }
+        }
+    }
+    if high.is_some() {
+        return Ok(None);
+    }
+    Ok(Some(bytes))
+}
