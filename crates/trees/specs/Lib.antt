@@ -2,3 +2,5 @@
 pub mod Forest
 pub mod Laws
 pub mod Questions
+pub mod Scan
+pub mod Outlines
