@@ -78,7 +78,7 @@ pub accepted : (rs : List Record) → isOk (outline-answer rs) ≡ true → Acce
 accepted rs h = ⊎-elim
     (λ l. record { some = l; each = λ i k. fine i (depth-limit rs i) (getD rs i no-record) (clean (outline-fault rs) (λ j c. refused c Tree j 0) (length rs) (ap isOk (sym (some-records rs l)) ∙ h) i k) })
     (λ l. let e = cond-true (eqb (length rs) 0) (Err (refused OneTree Tree 0 0)) (scan (outline-fault rs) (λ i c. refused c Tree i 0) 0 (length rs)) (Rattle.std.proofs.shelf.Tests.eq-eqb (length rs) 0 (omega arith)) in
-      let z : false ≡ true = ap isOk (sym e) ∙ h in let n : _≡_ {A = ℕ} 0 1 = cc in absurd (omega arith))
+    let z : false ≡ true = ap isOk (sym e) ∙ h in let n : _≡_ {A = ℕ} 0 1 = cc in absurd (omega arith))
     (cases-lt 0 (length rs))
 
 pub accepts : (rs : List Record) → Accepted rs → outline-answer rs ≡ Ok (length rs)

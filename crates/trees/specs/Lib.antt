@@ -4,3 +4,4 @@ pub mod Laws
 pub mod Questions
 pub mod Scan
 pub mod Outlines
+pub mod Made

@@ -7,6 +7,7 @@ ghost use Rattle.trees.specs.Outlines.{outline-answer};
 pub use crate::record::Record;
 
 pub mod check;
+pub mod tree;
 
 /// A tree over lent records. Of faulty records it is a single leaf, held beside them.
 #[derive(Drop)]
