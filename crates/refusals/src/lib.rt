@@ -56,7 +56,8 @@ impl Cause {
     }
 
     /// The cause in words.
-    pub fn words(self) -> &'static str {
+    pub fn words(self) -> &'static str
+    {
         match self {
             Cause::WrongClick => "wrong click",
             Cause::ClickOpen => "click open",

@@ -2,6 +2,7 @@
 ghost use mathlib.Core.Path.{_≡_};
 ghost use Prim.Native.Nat.{_<_, _≤_};
 ghost use Rattle.trees.specs.Outlines.{record-fault, outline-answer};
+ghost use Rattle.trees.specs.Laws.{Takes-outlines};
 use crate::record::Record;
 use refusals::Cause;
 use refusals::Layer;
@@ -34,6 +35,7 @@ fn fault(number: usize, limit: u16, record: Record) -> Option<Cause>
 /// Checks records, and answers how many places their tree has.
 pub fn check_outline(records: &[Record]) -> Result<usize, Refusal>
     ensures value { λ r. ⌜ r ≡ outline-answer (now (records .entry)) ⌝ }
+    ensures exact { λ r. ⌜ Takes-outlines (now (records .entry)) r ⌝ }
 {
     if records.len() == 0 {
         return Err(Refusal::at(Cause::OneTree, Layer::Tree, 0));

@@ -4,8 +4,8 @@ ghost use mathlib.Core.Bool.{false};
 ghost use Prim.Native.Nat.{_<_, _≤_};
 ghost use lib.ListN.{length};
 ghost use Rattle.std.specs.Results.{Cases};
-ghost use Rattle.trees.specs.Forest.{size-at, relabel};
-ghost use Rattle.trees.specs.Outlines.{outline-nodes, outline-meaning};
+ghost use Rattle.trees.specs.Forest.{Forest, Law, relabel, size-at};
+ghost use Rattle.trees.specs.Outlines.{outline-meaning, outline-nodes, outline-of};
 ghost use Rattle.trees.specs.Questions.{put-answer};
 ghost use Rattle.trees.specs.Made.{outline-tree};
 use crate::ChangeableTree;
@@ -38,6 +38,7 @@ impl<'a> Outline<'a> {
     /// The tree of these records, or a leaf with label 0 beside them if they are faulty.
     pub fn new(records: &'a mut [Record]) -> Outline<'a>
         ensures meaning { λ r. ⌜ outline-tree r ≡ outline-meaning (now (records .entry)) ⌝ }
+        ensures same { λ r. ⌜ ((m : Forest) → Law m → now (records .entry) ≡ outline-of m → outline-tree r ≡ m) ⌝ }
         ensures untouched { λ r. ⌜ now (r .records) ≡ now (records .entry) ⌝ }
     {
         let sound = check_outline(records).is_ok();
