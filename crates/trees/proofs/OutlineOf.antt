@@ -63,9 +63,9 @@ size-of m h p l =
     let s = h .sizes p l in
     let f = fits-whole m (sound m h) p l in
     let count : deeper (getD rs p no-record .depth) (drop (suc p) rs) ≡ size-at m p - 1 = deeper-to (getD rs p no-record .depth) (drop (suc p) rs) (size-at m p - 1) (omega (arith, length-drop (suc p) rs))
-        (λ k i. omega (arith, ap (λ r. r .depth) (getD-drop (suc p) rs k no-record), deep-at m (suc p + k) (omega arith), d, deeper-inside m (sound m h) p (suc p + k) l (omega arith) (omega arith)))
+        (λ k i. omega (arith, ap (λ r. r .depth) (getD-drop (suc p) rs k no-record), deep-at m (suc p + k) (omega arith), d, deeper-inside m (h .inside) p (suc p + k) l (omega arith) (omega arith)))
         (λ i. let e : suc p + (size-at m p - 1) ≡ p + size-at m p = omega arith in
-          omega (arith, ap (λ r. r .depth) (getD-drop (suc p) rs (size-at m p - 1) no-record), ap (λ k. getD rs k no-record .depth) e, deep-at m (p + size-at m p) (omega (arith, length-drop (suc p) rs)), d, shallower-after m (sound m h) p l)) in
+          omega (arith, ap (λ r. r .depth) (getD-drop (suc p) rs (size-at m p - 1) no-record), ap (λ k. getD rs k no-record .depth) e, deep-at m (p + size-at m p) (omega (arith, length-drop (suc p) rs)), d, shallower-after m (h .inside) p l)) in
     omega (arith, size-read rs p (omega (arith, n)), count)
 
 pub outline-means : (m : Forest) → Law m → outline-nodes (outline-of m) ≡ m

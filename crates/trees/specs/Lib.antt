@@ -3,5 +3,7 @@ pub mod Forest
 pub mod Questions
 pub mod Scan
 pub mod Outlines
+pub mod Images
+pub mod Opened
 pub mod Laws
 pub mod Made

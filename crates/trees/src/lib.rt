@@ -7,6 +7,7 @@ ghost use Rattle.trees.specs.Laws.{Same-is-equal, Relabel-keeps-the-law, Relab
 ghost use Rattle.trees.specs.Questions.{label-answer, size-answer, put-answer};
 use refusals::Refusal;
 
+pub mod image;
 pub mod outline;
 mod record;
 
