@@ -7,6 +7,7 @@ ghost use Rattle.trees.specs.Images.{image-answer};
 
 pub mod check;
 mod head;
+pub mod tree;
 
 /// A tree over lent bytes. Of faulty bytes it is a single leaf, held beside them.
 #[derive(Drop)]
