@@ -1,7 +1,7 @@
 -- Images: which bytes are one, what they mean, and the image of a tree.
 use mathlib.Core.Path.{_≡_}
 use mathlib.Core.Bool.{Bool, true, false, cond, _&&_, _||_}
-use mathlib.Core.List.{List, [], _∷_, map}
+use mathlib.Core.List.{List, [], _∷_, _++_, map}
 use Prim.Native.Nat.{ℕ, zero, suc, _+_, _*_, _/_, _%_, _<_}
 use lib.Dec.{eqb, ltb}
 use lib.ListN.{length, getD}
@@ -67,9 +67,14 @@ image-answer bs = cond (eqb (length bs) 0) (Err (refused OneTree Image 0 0)) (sc
 abbrev pub image-meaning : List ℕ → Forest
 image-meaning bs = kept (isOk (image-answer bs)) (image-nodes bs) 0
 
--- The record of a node: the length of its subtree's records in four bytes and its label in two, the lowest byte first.
+-- A number in so many bytes, the lowest first.
+abbrev pub number-bytes : ℕ → ℕ → List ℕ
+number-bytes zero n = []
+number-bytes (suc k) n = n % 256 ∷ number-bytes k (n / 256)
+
+-- The record of a node: the length of its subtree's records in four bytes, and its label in two.
 abbrev pub node-bytes : Node → List ℕ
-node-bytes a = 6 * a .size % 256 ∷ 6 * a .size / 256 % 256 ∷ 6 * a .size / 65536 % 256 ∷ 6 * a .size / 16777216 % 256 ∷ a .label % 256 ∷ a .label / 256 % 256 ∷ []
+node-bytes a = number-bytes 4 (6 * a .size) ++ number-bytes 2 (a .label)
 
 -- The image of a tree: the records of its nodes, in order of place.
 abbrev pub image-of : Forest → List ℕ

@@ -4,6 +4,7 @@ ghost use Prim.Native.Nat.{ℕ, _+_, _*_, _<_, _≤_};
 ghost use lib.ListN.{length};
 ghost use Rattle.std.specs.declared.option.Option.the-variants.{None};
 ghost use Rattle.trees.specs.Images.{Record-bytes, image-answer, inner-end, place-fault};
+ghost use Rattle.trees.specs.Laws.{One-image, Takes-images};
 ghost use Rattle.trees.specs.Opened.{popped, top};
 use crate::image::head::head_at;
 use crate::image::head::length_at;
@@ -71,6 +72,8 @@ fn fault(bytes: &[u8], place: usize, depth: usize, end: usize) -> Option<Cause>
 /// Checks bytes, and answers how many places their tree has.
 pub fn check_image(bytes: &[u8]) -> Result<usize, Refusal>
     ensures value { λ r. ⌜ r ≡ image-answer (now (bytes .entry)) ⌝ }
+    ensures exact { λ r. ⌜ Takes-images (now (bytes .entry)) r ⌝ }
+    ensures one { λ _. ⌜ One-image ⌝ }
 {
     if bytes.len() == 0 {
         return Err(Refusal::at(Cause::OneTree, Layer::Image, 0));

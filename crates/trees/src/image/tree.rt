@@ -4,8 +4,8 @@ ghost use mathlib.Core.Bool.{true, false};
 ghost use Prim.Native.Nat.{_<_};
 ghost use lib.ListN.{length};
 ghost use Rattle.std.specs.Results.{Cases};
-ghost use Rattle.trees.specs.Forest.{relabel};
-ghost use Rattle.trees.specs.Images.{image-meaning, image-nodes};
+ghost use Rattle.trees.specs.Forest.{Forest, Law, relabel};
+ghost use Rattle.trees.specs.Images.{image-meaning, image-nodes, image-of};
 ghost use Rattle.trees.specs.Questions.{put-answer};
 ghost use Rattle.trees.specs.Made.{image-tree};
 use crate::ChangeableTree;
@@ -28,6 +28,7 @@ impl<'a> Image<'a> {
     /// The tree of these bytes, or a leaf with label 0 beside them if they are faulty.
     pub fn new(bytes: &'a mut [u8]) -> Image<'a>
         ensures meaning { λ r. ⌜ image-tree r ≡ image-meaning (now (bytes .entry)) ⌝ }
+        ensures same { λ r. ⌜ ((m : Forest) → Law m → now (bytes .entry) ≡ image-of m → image-tree r ≡ m) ⌝ }
         ensures untouched { λ r. ⌜ now (r .bytes) ≡ now (bytes .entry) ⌝ }
     {
         let sound = check_image(bytes).is_ok();
