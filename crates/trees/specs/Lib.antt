@@ -5,5 +5,6 @@ pub mod Scan
 pub mod Outlines
 pub mod Images
 pub mod Opened
+pub mod Writing
 pub mod Laws
 pub mod Made

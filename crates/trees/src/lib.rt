@@ -10,6 +10,7 @@ use refusals::Refusal;
 pub mod image;
 pub mod outline;
 mod record;
+pub mod write;
 
 /// What a tree means: its nodes in preorder, which keep the law of every tree.
 /// A trait of its own, with no method, so that each make proves the law by itself.
