@@ -60,11 +60,11 @@ image-means m h =
     let n = length-image m in
     let long : length (image-nodes (image-of m)) ≡ length m = omega (arith, many (image-of m)) in
     ext-getD no-node (image-nodes (image-of m)) m long (λ p i.
-      let l : p < length m = omega arith in
-      let a : label-in (image-of m) p ≡ label-at m p = label-of m h p l in
-      let b : length-in (image-of m) p / 6 ≡ size-at m p = omega (arith, length-of m h p l) in
-      let e : node-in (image-of m) p ≡ getD m p no-node = λ j. record { label = a j; size = b j } in
-      at (image-of m) p (omega arith) ∙ e)
+    let l : p < length m = omega arith in
+    let a : label-in (image-of m) p ≡ label-at m p = label-of m h p l in
+    let b : length-in (image-of m) p / 6 ≡ size-at m p = omega (arith, length-of m h p l) in
+    let e : node-in (image-of m) p ≡ getD m p no-node = λ j. record { label = a j; size = b j } in
+    at (image-of m) p (omega arith) ∙ e)
 
 -- the innermost end is one of the ends
 inner-all : (m : Forest) (w x p n : ℕ) → x ≤ w → ((k : ℕ) → k < n → p < k + size-at m k → x ≤ k + size-at m k) → x ≤ inner-end w (around m p n)

@@ -73,17 +73,17 @@ nodes-stored bs cs p l h r =
     let new = with-label l (getD (image-nodes bs) p no-node) in
     let long : length (relabel (image-nodes bs) p l) ≡ length bs / 6 = length-set (image-nodes bs) p new ∙ many bs in
     ext-getD no-node (image-nodes cs) (relabel (image-nodes bs) p l) (many cs ∙ same ∙ sym long) (λ i hi.
-      let lt : i < length bs / 6 = omega (arith, many cs, same) in
-      at cs i (omega (arith, same)) ∙
-      ⊎-elim
-      (λ e. ap (node-in cs) e
-        ∙ (let a : label-in cs p ≡ l = r .here in let b : length-in cs p / 6 ≡ length-in bs p / 6 = ap (λ n. n / 6) (r .lengths p) in let f : node-in cs p ≡ with-label l (node-in bs p) = λ j. record { label = a j; size = b j } in f)
-        ∙ ap (with-label l) (sym (at bs p h))
-        ∙ sym (ap (λ k. getD (relabel (image-nodes bs) p l) k no-node) e ∙ getD-set-same (image-nodes bs) p new no-node (omega (arith, many bs))))
-      (λ ne.
-        (let a : label-in cs i ≡ label-in bs i = r .others i ne in let b : length-in cs i / 6 ≡ length-in bs i / 6 = ap (λ n. n / 6) (r .lengths i) in let f : node-in cs i ≡ node-in bs i = λ j. record { label = a j; size = b j } in f)
-        ∙ sym (at bs i lt) ∙ sym (getD-set-other (image-nodes bs) p i new no-node ne))
-      (cases-eq i p))
+    let lt : i < length bs / 6 = omega (arith, many cs, same) in
+    at cs i (omega (arith, same)) ∙
+    ⊎-elim
+    (λ e. ap (node-in cs) e
+    ∙ (let a : label-in cs p ≡ l = r .here in let b : length-in cs p / 6 ≡ length-in bs p / 6 = ap (λ n. n / 6) (r .lengths p) in let f : node-in cs p ≡ with-label l (node-in bs p) = λ j. record { label = a j; size = b j } in f)
+    ∙ ap (with-label l) (sym (at bs p h))
+    ∙ sym (ap (λ k. getD (relabel (image-nodes bs) p l) k no-node) e ∙ getD-set-same (image-nodes bs) p new no-node (omega (arith, many bs))))
+    (λ ne.
+    (let a : label-in cs i ≡ label-in bs i = r .others i ne in let b : length-in cs i / 6 ≡ length-in bs i / 6 = ap (λ n. n / 6) (r .lengths i) in let f : node-in cs i ≡ node-in bs i = λ j. record { label = a j; size = b j } in f)
+    ∙ sym (at bs i lt) ∙ sym (getD-set-other (image-nodes bs) p i new no-node ne))
+    (cases-eq i p))
 
 sizes-stored : (bs cs : List ℕ) (p l : ℕ) → Relabelled bs cs p l → (q : ℕ) → size-at (image-nodes cs) q ≡ size-at (image-nodes bs) q
 sizes-stored bs cs p l r q =

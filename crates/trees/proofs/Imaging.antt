@@ -100,7 +100,7 @@ pub taken : (bs : List ℕ) → isOk (image-answer bs) ≡ true → Taken bs
 taken bs h = ⊎-elim
     (λ l. record { some = l; each = λ p k. fit bs p _ _ (clean (image-fault bs) (λ q c. refused c Image (6 * q) 0) ((length bs + 5) / 6) (ap isOk (sym (some-bytes bs l)) ∙ h) p (omega arith)) })
     (λ l. let e = cond-true (eqb (length bs) 0) (Err (refused OneTree Image 0 0)) (scan (image-fault bs) (λ p c. refused c Image (6 * p) 0) 0 ((length bs + 5) / 6)) (eq-eqb (length bs) 0 (omega arith)) in
-      let z : false ≡ true = ap isOk (sym e) ∙ h in let n : _≡_ {A = ℕ} 0 1 = cc in absurd (omega arith))
+    let z : false ≡ true = ap isOk (sym e) ∙ h in let n : _≡_ {A = ℕ} 0 1 = cc in absurd (omega arith))
     (cases-lt 0 (length bs))
 
 -- no bytes are left over

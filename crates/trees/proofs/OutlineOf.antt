@@ -63,19 +63,19 @@ size-of m h p l =
     let s = h .sizes p l in
     let f = fits-whole m (sound m h) p l in
     let count : deeper (getD rs p no-record .depth) (drop (suc p) rs) ≡ size-at m p - 1 = deeper-to (getD rs p no-record .depth) (drop (suc p) rs) (size-at m p - 1) (omega (arith, length-drop (suc p) rs))
-        (λ k i. omega (arith, ap (λ r. r .depth) (getD-drop (suc p) rs k no-record), deep-at m (suc p + k) (omega arith), d, deeper-inside m (h .inside) p (suc p + k) l (omega arith) (omega arith)))
-        (λ i. let e : suc p + (size-at m p - 1) ≡ p + size-at m p = omega arith in
-          omega (arith, ap (λ r. r .depth) (getD-drop (suc p) rs (size-at m p - 1) no-record), ap (λ k. getD rs k no-record .depth) e, deep-at m (p + size-at m p) (omega (arith, length-drop (suc p) rs)), d, shallower-after m (h .inside) p l)) in
+    (λ k i. omega (arith, ap (λ r. r .depth) (getD-drop (suc p) rs k no-record), deep-at m (suc p + k) (omega arith), d, deeper-inside m (h .inside) p (suc p + k) l (omega arith) (omega arith)))
+    (λ i. let e : suc p + (size-at m p - 1) ≡ p + size-at m p = omega arith in
+    omega (arith, ap (λ r. r .depth) (getD-drop (suc p) rs (size-at m p - 1) no-record), ap (λ k. getD rs k no-record .depth) e, deep-at m (p + size-at m p) (omega (arith, length-drop (suc p) rs)), d, shallower-after m (h .inside) p l)) in
     omega (arith, size-read rs p (omega (arith, n)), count)
 
 pub outline-means : (m : Forest) → Law m → outline-nodes (outline-of m) ≡ m
 outline-means m h =
     let n = length-nodes (outline-of m) ∙ length-outline m in
     ext-getD no-node (outline-nodes (outline-of m)) m n (λ p i.
-      let l : p < length m = omega (arith, n) in
-      let a : label-at (outline-nodes (outline-of m)) p ≡ label-at m p = label-read (outline-of m) p ∙ ap (λ r. r .label) (at m p l) in
-      let b : size-at (outline-nodes (outline-of m)) p ≡ size-at m p = size-of m h p l in
-      λ j. record { label = a j; size = b j })
+    let l : p < length m = omega (arith, n) in
+    let a : label-at (outline-nodes (outline-of m)) p ≡ label-at m p = label-read (outline-of m) p ∙ ap (λ r. r .label) (at m p l) in
+    let b : size-at (outline-nodes (outline-of m)) p ≡ size-at m p = size-of m h p l in
+    λ j. record { label = a j; size = b j })
 
 pub outline-taken : (m : Forest) → Law m → outline-answer (outline-of m) ≡ Ok (length m)
 outline-taken m h = accepts (outline-of m) (outline-accepted m h) ∙ ap Ok (length-outline m)
@@ -85,10 +85,10 @@ outline-is rs a =
     let m = outline-nodes rs in
     let n = length-nodes rs in
     ext-getD no-record rs (outline-of m) (sym (length-outline m ∙ n)) (λ p i.
-      let d : getD rs p no-record .depth ≡ enclosing m p p = sym (depth-read rs a p i) in
-      let l : getD rs p no-record .label ≡ label-at m p = sym (label-read rs p) in
-      let e : getD rs p no-record ≡ record-of m p = λ j. record { depth = d j; label = l j } in
-      e ∙ sym (at m p (omega (arith, n))))
+    let d : getD rs p no-record .depth ≡ enclosing m p p = sym (depth-read rs a p i) in
+    let l : getD rs p no-record .label ≡ label-at m p = sym (label-read rs p) in
+    let e : getD rs p no-record ≡ record-of m p = λ j. record { depth = d j; label = l j } in
+    e ∙ sym (at m p (omega (arith, n))))
 
 -- what the check answers is exact
 pub takes-outlines : (rs : List Record) (r : Result ℕ Refusal) → r ≡ outline-answer rs → Takes-outlines rs r

@@ -39,7 +39,7 @@ write-more m p k was out ys h e o y =
     let a : take (6 * p) out ≡ front = ap (take (6 * p)) o ∙ take-at front (drop (6 * p) was) (6 * p) long in
     let n : 6 * p + 6 ≡ 6 * (p + 1) = omega arith in
     let b : drop k (drop (6 * p) out) ≡ drop (6 * (p + 1)) was =
-        (λ i. drop (e i) (drop (6 * p) (o i))) ∙ ap (drop 6) (drop-at front (drop (6 * p) was) (6 * p) long) ∙ drop-drop 6 (6 * p) was ∙ ap (λ j. drop j was) n in
+    (λ i. drop (e i) (drop (6 * p) (o i))) ∙ ap (drop 6) (drop-at front (drop (6 * p) was) (6 * p) long) ∙ drop-drop 6 (6 * p) was ∙ ap (λ j. drop j was) n in
     let c : image-of (take (p + 1) m) ≡ front ++ node-bytes (getD m p no-node) = ap image-of (take-more m p no-node h) ∙ image-push (take p m) (getD m p no-node) in
     (λ i. a i ++ (y i ++ b i)) ∙ sym (append-assoc front (node-bytes (getD m p no-node)) (drop (6 * (p + 1)) was)) ∙ ap (λ t. t ++ drop (6 * (p + 1)) was) (sym c)
 

@@ -59,7 +59,11 @@ pub impl Meant for Image<'_> as ImageMeant {
 
 pub impl Tree for Image<'_> as ImageTree {
     fn places(&self) -> usize {
-        if self.sound { self.bytes.len() / RECORD } else { 1 }
+        if self.sound {
+            self.bytes.len() / RECORD
+        } else {
+            1
+        }
     }
 
     fn label(&self, place: usize) -> Result<u16, Refusal> {

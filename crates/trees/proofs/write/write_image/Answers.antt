@@ -19,7 +19,8 @@ record-of-requires g c κs =
     let p = c .loop-place .place in
     let law = g .T·Meant·met .lawful (c .args .tree .now) in
     let h : p < length m = omega arith in
-    omega (arith, size-is m p (c .unwrap-size .result) h (sym (c .size .ensures) ∙ c .unwrap-size .ensures), fits-whole m (sound m law) p h, law .few-nodes)
+    let s : c .unwrap-size .result ≡ size-at m p = size-is m p (c .unwrap-size .result) h (sym (c .size .ensures) ∙ c .unwrap-size .ensures) in
+    omega (arith, s, fits-whole m (sound m law) p h, law .few-nodes)
 
 pub loop-place-again : need.loop-place-again
 loop-place-again g c =

@@ -27,8 +27,7 @@ loop-place-again c =
     let k = c .pop-depth .result in
     let here : image-fault bs p ≡ None = walk-fault bs p (c .loop-place .used) k (c .innermost-end .result) (c .loop-place .ends) _ (c .loop-place .inv .1) (c .pop-depth .ensures .ends) (c .innermost-end .ensures) (c .in-rest .ensures tt .value) in
     let f : Fit bs p k (c .innermost-end .result) = fit bs p k (c .innermost-end .result) (sym (c .in-rest .ensures tt .value)) in
-    let clean = below-more _ _ (c .loop-place .inv .0) here in
-    (
+    let clean = below-more _ _ (c .loop-place .inv .0) here in (
       clean,
       walk-more bs p (c .loop-place .used) k (p + c .length-at .result / 6) (c .loop-place .ends) (omega (arith, f .room)) clean (c .loop-place .inv .1) (c .pop-depth .ensures .ends) (omega (arith, f .low, c .loop-place .inv .3)) (ap (λ n. p + n / 6) (c .length-at .ensures .value)),
       omega (arith, f .low),
