@@ -1,0 +1,2 @@
+-- The exchange of two labels.
+pub mod Exchange

@@ -1,0 +1,175 @@
+// Every truncation and single-byte change of an image, through the check and the make, and one change of labels on both makes.
+use refusals::Refusal;
+use std::io;
+use trees::Tree;
+use trees::any::same_tree;
+use trees::image::Image;
+use trees::image::check::check_image;
+use trees::image::tree::ImageChangeable;
+use trees::image::tree::ImageMeant;
+use trees::image::tree::ImageTree;
+use trees::outline::Outline;
+use trees::outline::Record;
+use trees::outline::tree::OutlineChangeable;
+use trees::outline::tree::OutlineMeant;
+use trees::outline::tree::OutlineTree;
+use trees::write::write_image;
+
+mod exchange;
+
+use exchange::exchange;
+use exchange::root_label;
+
+/// The image of a tree of ten nodes.
+const IMAGE: [u8; 60] = [
+    60,
+    0,
+    0,
+    0,
+    1,
+    0,
+    12,
+    0,
+    0,
+    0,
+    2,
+    0,
+    6,
+    0,
+    0,
+    0,
+    4,
+    0,
+    6,
+    0,
+    0,
+    0,
+    5,
+    0,
+    36,
+    0,
+    0,
+    0,
+    3,
+    0,
+    12,
+    0,
+    0,
+    0,
+    2,
+    0,
+    6,
+    0,
+    0,
+    0,
+    6,
+    0,
+    6,
+    0,
+    0,
+    0,
+    7,
+    0,
+    12,
+    0,
+    0,
+    0,
+    2,
+    0,
+    6,
+    0,
+    0,
+    0,
+    8,
+    0,
+];
+
+/// The values that each byte is changed to.
+const VALUES: [u8; 8] = [0, 1, 5, 6, 12, 127, 128, 255];
+
+/// Prints a refusal.
+fn refuse(rt: &impl Print, refusal: Refusal) -> io::Result<()> {
+    let number = refusal.cause.number();
+    let words = refusal.cause.words();
+    let layer = refusal.layer.number();
+    let byte = refusal.byte;
+    print!(rt, "refused {number} {words} (layer {layer}, byte {byte})")
+}
+
+/// Prints what the check answers, and the tree that is made.
+fn outcome(rt: &impl Print, bytes: &mut [u8]) -> io::Result<()> {
+    match check_image(bytes) {
+        Ok(places) => print!(rt, "ok {places} places")?,
+        Err(refusal) => refuse(rt, refusal)?,
+    }
+    let tree = Image::new(bytes);
+    let places = tree.places();
+    let root = root_label(&tree);
+    println!(rt, ", made {places} places under {root}")
+}
+
+/// The image cut off at each length.
+fn cuts(rt: &impl Print) -> io::Result<()> {
+    for n in 0..61 {
+        let mut bytes = IMAGE;
+        print!(rt, "cut to {n}: ")?;
+        outcome(rt, &mut bytes[0..n])?;
+    }
+    Ok(())
+}
+
+/// The image with one byte changed.
+fn changes(rt: &impl Print) -> io::Result<()> {
+    for at in 0..60 {
+        for value in VALUES {
+            let mut bytes = IMAGE;
+            if bytes[at] != value {
+                bytes[at] = value;
+                print!(rt, "byte {at} to {value}: ")?;
+                outcome(rt, &mut bytes)?;
+            }
+        }
+    }
+    Ok(())
+}
+
+/// The same change of labels on the outline and on the image of one tree.
+fn both(rt: &impl Print) -> io::Result<()> {
+    let mut bytes = IMAGE;
+    let mut records = [
+        Record { depth: 0, label: 1 },
+        Record { depth: 1, label: 2 },
+        Record { depth: 2, label: 4 },
+        Record { depth: 1, label: 5 },
+        Record { depth: 1, label: 3 },
+        Record { depth: 2, label: 2 },
+        Record { depth: 3, label: 6 },
+        Record { depth: 2, label: 7 },
+        Record { depth: 2, label: 2 },
+        Record { depth: 3, label: 8 },
+    ];
+    let mut image = Image::new(&mut bytes);
+    let mut outline = Outline::new(&mut records);
+    let before = same_tree(&image, &outline);
+    let first = exchange(&mut image, 2, 9).is_ok();
+    let between = same_tree(&image, &outline);
+    let second = exchange(&mut outline, 2, 9).is_ok();
+    let after = same_tree(&image, &outline);
+    let outside = exchange(&mut outline, 2, 10).is_ok();
+    println!(
+        rt,
+        "same {before}, exchanged {first}, same {between}, exchanged {second}, same {after}, outside {outside}"
+    )?;
+    let mut out = [0u8; 62];
+    let written = write_image(&outline, &mut out);
+    match written {
+        Ok(n) => println!(rt, "{n} bytes {out:?}"),
+        Err(refusal) => refuse(rt, refusal),
+    }
+}
+
+fn main(rt: LibcRuntime) -> io::Result<()> {
+    cuts(&rt)?;
+    changes(&rt)?;
+    both(&rt)
+}
