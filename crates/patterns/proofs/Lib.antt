@@ -1,2 +1,3 @@
 -- The proofs.
 pub mod Slots
+pub mod Kept
