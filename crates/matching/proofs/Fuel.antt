@@ -11,7 +11,7 @@ use Rattle.patterns.specs.declared.row.Element.{Element}
 use Rattle.trees.specs.Forest.{Forest, size-at}
 use Rattle.matching.specs.declared.rule.Rule.{Rule}
 use Rattle.matching.specs.declared.rule.Rule.the-variants.{Done, Stuck, BothGo, BindBeforeLexeme, BindBeforeInner, BindLast, Enter, Open}
-use Rattle.matching.specs.Rules.{Bindings, Walk, choose, choose-none, by-rule, bind, after, tick, variable, group, walk, match-at}
+use Rattle.matching.specs.Rules.{Bindings, Walk, choose, choose-none, by-rule, bind, after, tick, variable, group, walk, walks, match-at}
 use Rattle.trees.proofs.Windows.{win, Sound, Fits, fits-later, fits-inner, fits-at, fits-whole}
 use Rattle.matching.proofs.Winning.{choose-nothing}
 
@@ -56,10 +56,7 @@ walk-fuel m s zero k es p e c f i j = absurd (omega arith)
 walk-fuel m s (suc n) zero es p e c f i j = absurd (omega arith)
 walk-fuel m s (suc n) (suc k) es p e c f i j = step-alike m s (walk n m) (walk k m) es p e c f (λ xs q r d g h. walk-fuel m s n k xs q r d g (omega arith) (omega arith))
 
--- a walk with just enough fuel, and the equation that a recursion on e - p obeys
-abbrev pub walks : Forest → Walk
-walks m es p e c = walk (1 + (e - p)) m es p e c
-
+-- the equation that a recursion on e - p obeys
 pub walks-step : (m : Forest) → Sound m → (es : List Element) (p e : ℕ) (c : Bindings) → Fits m p e → walks m es p e c ≡ by-rule (walks m) m es p (size-at m p) e c (choose es (win m p e))
 walks-step m s es p e c f = walk-fuel m s (1 + (e - p)) (suc (e - p)) es p e c f (omega arith) (omega arith)
     ∙ step-alike m s (walk (e - p) m) (walks m) es p e c f (λ xs q r d g h. walk-fuel m s (e - p) (1 + (r - q)) xs q r d g h (omega arith))

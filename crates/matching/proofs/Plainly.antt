@@ -13,9 +13,11 @@ use Rattle.std.specs.declared.option.Option.the-variants.{Some, None}
 use Rattle.patterns.specs.declared.row.Element.{Element}
 use Rattle.patterns.specs.declared.row.Element.the-variants.{Lexeme, Variable, Group}
 use Rattle.trees.specs.Forest.{Node, Forest, size-at, subtree, same, no-node}
+use Rattle.matching.specs.declared.rule.Next.{Next}
+use Rattle.matching.specs.declared.rule.Next.the-variants.{Leaf, Inner}
 use Rattle.matching.specs.declared.rule.Rule.{Rule}
 use Rattle.matching.specs.declared.rule.Rule.the-variants.{Stuck, BothGo, BindBeforeLexeme, Enter, Open}
-use Rattle.matching.specs.Rules.{Next, leaf, inner, next, fits, Bindings, Outcome, Walk, choose, choose-last, by-rule, bind, after, after-bound, fails, walk}
+use Rattle.matching.specs.Rules.{next, fits, Bindings, Outcome, Walk, choose, choose-last, by-rule, bind, after, after-bound, fails, walk}
 use Rattle.matching.specs.Readings.{Substitution, Reads, nothing-left, lexeme, variable, group, opening, Plain}
 use Rattle.trees.proofs.Same.{same-refl}
 use Rattle.matching.specs.Laws.{Plain-readings-match}
@@ -57,14 +59,14 @@ module _ (m : Forest) (s : Sound m) (σ : Substitution) (n : ℕ) (go : Walk)
       bind-wins m σ b (getD b x None) x p (go [] (p + size-at m p) e) refl h t (λ d i. wins [] (p + size-at m p) e d [] nothing-left tt z (fits-later f (p + size-at m p) (omega arith)) tt (omega arith) i)
   last-wins k big x o t (lexeme {l = l} {a = n} {es = es} {f = v} i j r) pl z g =
       let (q, a, y) = win-head m (p + size-at m p) e n v (f .within) z in
-      let c : choose-last (Lexeme l ∷ es) (next (n ∷ v)) ≡ BindBeforeLexeme = ap (choose-last (Lexeme l ∷ es)) (cond-false (ltb 1 (n .size)) inner (leaf (n .label)) (le-ltb 1 (n .size) (omega arith))) ∙ cond-true (eqb l (n .label)) BindBeforeLexeme Open (eq-eqb l (n .label) (sym j)) in
+      let c : choose-last (Lexeme l ∷ es) (next (n ∷ v)) ≡ BindBeforeLexeme = ap (choose-last (Lexeme l ∷ es)) (cond-false (ltb 1 (n .size)) Inner (Leaf (n .label)) (le-ltb 1 (n .size) (omega arith))) ∙ cond-true (eqb l (n .label)) BindBeforeLexeme Open (eq-eqb l (n .label) (sym j)) in
       subst (λ (j : Rule). Wins m σ (by-rule go m (Variable x o ∷ (Lexeme l ∷ es)) p (size-at m p) e b j)) (sym c)
       (bind-wins m σ b (getD b x None) x p (go es (p + size-at m p + 1) e) refl h t (λ d i. wins es (p + size-at m p + 1) e d v r pl y (fits-later f (p + size-at m p + 1) (omega arith)) (g .1 .1) (omega arith) i))
   last-wins k big x o t (variable {x = a} {c = c} {a = n} {es = es} {f = v} j q y r) pl z g =
-      subst (λ (i : Next). Wins m σ (by-rule go m (Variable x o ∷ (Variable a c ∷ es)) p (size-at m p) e b (choose-last (Variable a c ∷ es) i))) (sym (cond-true (ltb 1 (n .size)) inner (leaf (n .label)) (lt-ltb 1 (n .size) j)))
+      subst (λ (i : Next). Wins m σ (by-rule go m (Variable x o ∷ (Variable a c ∷ es)) p (size-at m p) e b (choose-last (Variable a c ∷ es) i))) (sym (cond-true (ltb 1 (n .size)) Inner (Leaf (n .label)) (lt-ltb 1 (n .size) j)))
       (bind-wins m σ b (getD b x None) x p (go (Variable a c ∷ es) (p + size-at m p) e) refl h t (λ d i. wins (Variable a c ∷ es) (p + size-at m p) e d (n ∷ v) (variable j q y r) pl z (fits-later f (p + size-at m p) (omega arith)) (g .1) (omega arith) i))
   last-wins k big x o t (group {k = a} {a = n} {es = es} {f = v} j q r) pl z g =
-      subst (λ (i : Next). Wins m σ (by-rule go m (Variable x o ∷ (Group a ∷ es)) p (size-at m p) e b (choose-last (Group a ∷ es) i))) (sym (cond-true (ltb 1 (n .size)) inner (leaf (n .label)) (lt-ltb 1 (n .size) j)))
+      subst (λ (i : Next). Wins m σ (by-rule go m (Variable x o ∷ (Group a ∷ es)) p (size-at m p) e b (choose-last (Group a ∷ es) i))) (sym (cond-true (ltb 1 (n .size)) Inner (Leaf (n .label)) (lt-ltb 1 (n .size) j)))
       (bind-wins m σ b (getD b x None) x p (go (Group a ∷ es) (p + size-at m p) e) refl h t (λ d i. wins (Group a ∷ es) (p + size-at m p) e d (n ∷ v) (group j q r) pl z (fits-later f (p + size-at m p) (omega arith)) (g .1) (omega arith) i))
   last-wins k big x o t (opening j r) pl z g = absurd pl
 

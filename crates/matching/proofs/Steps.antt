@@ -17,12 +17,12 @@ use Rattle.matching.specs.Rules.{Bindings, Outcome, Walk, choose, choose-none,
 use Rattle.matching.specs.Laws.{Two-steps-a-node}
 use Rattle.trees.proofs.Windows.{win, win-none, Sound, sound, Fits, fits-later, fits-inner, fits-at}
 
-compared-most : (f g : Forest) → compared f g ≤ length g
+pub compared-most : (f g : Forest) → compared f g ≤ length g
 compared-most [] g = omega arith
 compared-most (a ∷ f) [] = omega arith
 compared-most (a ∷ f) (b ∷ g) = cond-both (same-node a b) _ _ (λ (n : ℕ). n ≤ suc (length g)) (λ e. omega (arith, compared-most f g)) (λ e. omega arith)
 
-subtree-most : (m : Forest) (p : ℕ) → length (subtree m p) ≤ size-at m p
+pub subtree-most : (m : Forest) (p : ℕ) → length (subtree m p) ≤ size-at m p
 subtree-most m p = simp length-take (omega arith)
 
 bind-steps : (m : Forest) (b : Bindings) (o : Option ℕ) (x p : ℕ) (k : Bindings → Outcome) (n : ℕ) → ((c : Bindings) → k c .steps ≤ n) → bind m b o x p k .steps ≤ size-at m p + n

@@ -15,9 +15,11 @@ use Rattle.patterns.specs.declared.row.Element.{Element}
 use Rattle.patterns.specs.declared.row.Element.the-variants.{Lexeme, Variable, Group}
 use Rattle.trees.specs.Forest.{Forest, size-at, subtree, same, no-node}
 use Rattle.patterns.specs.Elements.{number-of, extent, least-extent, Well-formed}
+use Rattle.matching.specs.declared.rule.Next.{Next}
+use Rattle.matching.specs.declared.rule.Next.the-variants.{Nothing, Leaf, Inner}
 use Rattle.matching.specs.declared.rule.Rule.{Rule}
 use Rattle.matching.specs.declared.rule.Rule.the-variants.{Stuck, BothGo, BindBeforeLexeme, Enter, Open}
-use Rattle.matching.specs.Rules.{Next, nothing, leaf, inner, next, fits, Bindings, Outcome, Walk, choose, choose-none, choose-leaf, choose-inner, choose-last, by-rule, bind, after, after-bound, fails, walk}
+use Rattle.matching.specs.Rules.{next, fits, Bindings, Outcome, Walk, choose, choose-none, choose-leaf, choose-inner, choose-last, by-rule, bind, after, after-bound, fails, walk}
 use Rattle.trees.proofs.Same.{same-true}
 use Rattle.trees.proofs.Windows.{win, win-none, win-cons, rest-win, Sound, Fits, fits-later, fits-inner}
 
@@ -113,11 +115,11 @@ module _ (m : Forest) (s : Sound m) where
   one-there : (q : ℕ) → q < length m → size-at m q ≤ 1 → size-at m q ≡ 1
   one-there q h k = omega (arith, s .sizes q h)
 
-  leaf-there : (q e l : ℕ) → Fits m q e → next (win m q e) ≡ leaf l → (q < e) × ((size-at m q ≡ 1) × (getD m q no-node .label ≡ l))
-  leaf-there q e l f h = ⊎-elim (λ k. (k, size k (ltb 1 (size-at m q)) refl (subst (λ (w : Forest). next w ≡ leaf l) (win-cons m q e k (f .within)) h)))
-      (λ k. let z : _≡_ {A = Next} nothing (leaf l) = subst (λ (w : Forest). next w ≡ leaf l) (win-none m q e k) h in let y : _≡_ {A = ℕ} 0 1 = cc in absurd (omega arith)) (cases-lt q e)
+  leaf-there : (q e l : ℕ) → Fits m q e → next (win m q e) ≡ Leaf l → (q < e) × ((size-at m q ≡ 1) × (getD m q no-node .label ≡ l))
+  leaf-there q e l f h = ⊎-elim (λ k. (k, size k (ltb 1 (size-at m q)) refl (subst (λ (w : Forest). next w ≡ Leaf l) (win-cons m q e k (f .within)) h)))
+      (λ k. let z : _≡_ {A = Next} Nothing (Leaf l) = subst (λ (w : Forest). next w ≡ Leaf l) (win-none m q e k) h in let y : _≡_ {A = ℕ} 0 1 = cc in absurd (omega arith)) (cases-lt q e)
     where
-      size : q < e → (t : Bool) → ltb 1 (size-at m q) ≡ t → _≡_ {A = Next} (cond t inner (leaf (getD m q no-node .label))) (leaf l) → (size-at m q ≡ 1) × (getD m q no-node .label ≡ l)
+      size : q < e → (t : Bool) → ltb 1 (size-at m q) ≡ t → _≡_ {A = Next} (cond t Inner (Leaf (getD m q no-node .label))) (Leaf l) → (size-at m q ≡ 1) × (getD m q no-node .label ≡ l)
       size k true u v = let y : _≡_ {A = ℕ} 0 1 = cc in absurd (omega arith)
       size k false u v = (one-there q (omega (arith, f .within)) (omega (arith, ltb-false 1 (size-at m q) u)), cc)
 
@@ -142,7 +144,7 @@ module _ (m : Forest) (s : Sound m) where
           let (d, i, j) = bind-some m b (getD b x None) x p (go es (p + size-at m p) e) c refl w in
           put h k t i (wins es (p + size-at m p) e d c (fits-later f (p + size-at m p) (omega arith)) g j)
 
-      won-bind-lexeme : (x : ℕ) (o : Option ℕ) → T (fits o (getD m p no-node .label)) → (l r : ℕ) (es : List Element) → Goods (Variable x o ∷ (Lexeme l ∷ es)) → next (win m (p + size-at m p) e) ≡ leaf r → (u : Bool) → eqb l r ≡ u →
+      won-bind-lexeme : (x : ℕ) (o : Option ℕ) → T (fits o (getD m p no-node .label)) → (l r : ℕ) (es : List Element) → Goods (Variable x o ∷ (Lexeme l ∷ es)) → next (win m (p + size-at m p) e) ≡ Leaf r → (u : Bool) → eqb l r ≡ u →
           by-rule go m (Variable x o ∷ (Lexeme l ∷ es)) p (size-at m p) e b (cond u BindBeforeLexeme Open) .bound ≡ Some c → Won m (Variable x o ∷ (Lexeme l ∷ es)) p e b c
       won-bind-lexeme x o t l r es g z true y w =
           let (d, i, j) = bind-some m b (getD b x None) x p (go es (p + size-at m p + 1) e) c refl w in
@@ -152,18 +154,18 @@ module _ (m : Forest) (s : Sound m) where
 
       won-last : (x : ℕ) (o : Option ℕ) → T (fits o (getD m p no-node .label)) → (es : List Element) → Goods (Variable x o ∷ es) → (n : Next) → next (win m (p + size-at m p) e) ≡ n →
           by-rule go m (Variable x o ∷ es) p (size-at m p) e b (choose-last es n) .bound ≡ Some c → Won m (Variable x o ∷ es) p e b c
-      won-last x o t [] g nothing z w = won-bind x o t [] tt w
-      won-last x o t [] g (leaf l) z w = won-opening (Variable x o ∷ []) g w
-      won-last x o t [] g inner z w = won-bind x o t [] tt w
-      won-last x o t (Lexeme l ∷ es) g nothing z w = won-opening (Variable x o ∷ (Lexeme l ∷ es)) g w
-      won-last x o t (Lexeme l ∷ es) g (leaf r) z w = won-bind-lexeme x o t l r es g z (eqb l r) refl w
-      won-last x o t (Lexeme l ∷ es) g inner z w = won-bind x o t (Lexeme l ∷ es) (g .1) w
-      won-last x o t (Variable y u ∷ es) g nothing z w = won-opening (Variable x o ∷ (Variable y u ∷ es)) g w
-      won-last x o t (Variable y u ∷ es) g (leaf r) z w = won-opening (Variable x o ∷ (Variable y u ∷ es)) g w
-      won-last x o t (Variable y u ∷ es) g inner z w = won-bind x o t (Variable y u ∷ es) (g .1) w
-      won-last x o t (Group n ∷ es) g nothing z w = won-opening (Variable x o ∷ (Group n ∷ es)) g w
-      won-last x o t (Group n ∷ es) g (leaf r) z w = won-opening (Variable x o ∷ (Group n ∷ es)) g w
-      won-last x o t (Group n ∷ es) g inner z w = won-bind x o t (Group n ∷ es) (g .1) w
+      won-last x o t [] g Nothing z w = won-bind x o t [] tt w
+      won-last x o t [] g (Leaf l) z w = won-opening (Variable x o ∷ []) g w
+      won-last x o t [] g Inner z w = won-bind x o t [] tt w
+      won-last x o t (Lexeme l ∷ es) g Nothing z w = won-opening (Variable x o ∷ (Lexeme l ∷ es)) g w
+      won-last x o t (Lexeme l ∷ es) g (Leaf r) z w = won-bind-lexeme x o t l r es g z (eqb l r) refl w
+      won-last x o t (Lexeme l ∷ es) g Inner z w = won-bind x o t (Lexeme l ∷ es) (g .1) w
+      won-last x o t (Variable y u ∷ es) g Nothing z w = won-opening (Variable x o ∷ (Variable y u ∷ es)) g w
+      won-last x o t (Variable y u ∷ es) g (Leaf r) z w = won-opening (Variable x o ∷ (Variable y u ∷ es)) g w
+      won-last x o t (Variable y u ∷ es) g Inner z w = won-bind x o t (Variable y u ∷ es) (g .1) w
+      won-last x o t (Group n ∷ es) g Nothing z w = won-opening (Variable x o ∷ (Group n ∷ es)) g w
+      won-last x o t (Group n ∷ es) g (Leaf r) z w = won-opening (Variable x o ∷ (Group n ∷ es)) g w
+      won-last x o t (Group n ∷ es) g Inner z w = won-bind x o t (Group n ∷ es) (g .1) w
 
       won-variable : (x : ℕ) (o : Option ℕ) (es : List Element) → Goods (Variable x o ∷ es) → (t : Bool) → fits o (getD m p no-node .label) ≡ t →
           by-rule go m (Variable x o ∷ es) p (size-at m p) e b (cond t (choose-last es (next (win m (p + size-at m p) e))) Open) .bound ≡ Some c → Won m (Variable x o ∷ es) p e b c

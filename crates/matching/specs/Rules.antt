@@ -9,6 +9,8 @@ use Rattle.std.specs.declared.option.Option.the-variants.{Some, None}
 use Rattle.trees.specs.Forest.{Forest, compared, same, size-at, subtree}
 use Rattle.patterns.specs.declared.row.Element.{Element}
 use Rattle.patterns.specs.declared.row.Element.the-variants.{Lexeme, Variable, Group}
+use Rattle.matching.specs.declared.rule.Next.{Next}
+use Rattle.matching.specs.declared.rule.Next.the-variants.{Nothing, Leaf, Inner}
 use Rattle.matching.specs.declared.rule.Rule.{Rule}
 use Rattle.matching.specs.declared.rule.Rule.the-variants.{Done, Stuck, BothGo, BindBeforeLexeme, BindBeforeInner, BindLast, Enter, Open}
 
@@ -21,31 +23,25 @@ abbrev pub fits : Option ℕ → ℕ → Bool
 fits None l = true
 fits (Some c) l = eqb c l
 
--- What follows a tree: nothing, a leaf with a label, or an inner node.
-pub data Next : Type 0 where
-  nothing : Next
-  leaf : ℕ → Next
-  inner : Next
-
 -- What a forest begins with.
 abbrev pub next : Forest → Next
-next [] = nothing
-next (a ∷ f) = cond (ltb 1 (a .size)) inner (leaf (a .label))
+next [] = Nothing
+next (a ∷ f) = cond (ltb 1 (a .size)) Inner (Leaf (a .label))
 
 -- The rule at an inner node that suits a variable, by the elements behind the variable and by what follows the node's tree.
 abbrev pub choose-last : List Element → Next → Rule
-choose-last [] nothing = BindLast
-choose-last [] (leaf l) = Open
-choose-last [] inner = BindBeforeInner
-choose-last (Lexeme m ∷ es) nothing = Open
-choose-last (Lexeme m ∷ es) (leaf l) = cond (alike m l) BindBeforeLexeme Open
-choose-last (Lexeme m ∷ es) inner = BindBeforeInner
-choose-last (Variable x c ∷ es) nothing = Open
-choose-last (Variable x c ∷ es) (leaf l) = Open
-choose-last (Variable x c ∷ es) inner = BindBeforeInner
-choose-last (Group k ∷ es) nothing = Open
-choose-last (Group k ∷ es) (leaf l) = Open
-choose-last (Group k ∷ es) inner = BindBeforeInner
+choose-last [] Nothing = BindLast
+choose-last [] (Leaf l) = Open
+choose-last [] Inner = BindBeforeInner
+choose-last (Lexeme m ∷ es) Nothing = Open
+choose-last (Lexeme m ∷ es) (Leaf l) = cond (alike m l) BindBeforeLexeme Open
+choose-last (Lexeme m ∷ es) Inner = BindBeforeInner
+choose-last (Variable x c ∷ es) Nothing = Open
+choose-last (Variable x c ∷ es) (Leaf l) = Open
+choose-last (Variable x c ∷ es) Inner = BindBeforeInner
+choose-last (Group k ∷ es) Nothing = Open
+choose-last (Group k ∷ es) (Leaf l) = Open
+choose-last (Group k ∷ es) Inner = BindBeforeInner
 
 -- The rule at an inner node with the label l, where the forest f follows its tree.
 abbrev pub choose-inner : List Element → ℕ → Forest → Rule
@@ -88,6 +84,10 @@ tick n o = record { bound = o .bound; steps = n + o .steps }
 abbrev pub fails : Outcome
 fails = record { bound = None; steps = 0 }
 
+-- These bindings, with no step taken.
+abbrev pub settled : Bindings → Outcome
+settled b = record { bound = Some b; steps = 0 }
+
 -- What an outcome with these bindings goes on with.
 abbrev pub after-bound : Outcome → Option Bindings → (Bindings → Outcome) → Outcome
 after-bound o None k = o
@@ -122,7 +122,7 @@ Walk = List Element → ℕ → ℕ → Bindings → Outcome
 
 -- What a rule does with the elements es between the places p and e, where s is the size at p and go is the rest of the way.
 abbrev pub by-rule : Walk → Forest → List Element → ℕ → ℕ → ℕ → Bindings → Rule → Outcome
-by-rule go m es p s e b Done = record { bound = Some b; steps = 0 }
+by-rule go m es p s e b Done = settled b
 by-rule go m es p s e b Stuck = fails
 by-rule go m es p s e b BothGo = tick 1 (go (drop 1 es) (p + 1) e b)
 by-rule go m es p s e b BindBeforeLexeme = tick 1 (bind m b (getD b (variable es) None) (variable es) p (go (drop 2 es) (p + s + 1) e))
@@ -135,6 +135,10 @@ by-rule go m es p s e b Open = tick 1 (go es (p + 1) e b)
 abbrev pub walk : ℕ → Forest → Walk
 walk zero m es p e b = fails
 walk (suc n) m es p e b = by-rule (walk n m) m es p (size-at m p) e b (choose es (take (e - p) (drop p m)))
+
+-- Rule after rule, as deep as the places allow.
+abbrev pub walks : Forest → Walk
+walks m es p e b = walk (1 + (e - p)) m es p e b
 
 -- How a pattern fares at a place.
 abbrev pub match-at : Forest → List Element → ℕ → Outcome
