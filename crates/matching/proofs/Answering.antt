@@ -23,12 +23,13 @@ use Rattle.patterns.specs.Elements.{Well-formed}
 use Rattle.matching.specs.declared.found.Match.{Match}
 use Rattle.matching.specs.Rules.{Bindings, Outcome, tick, match-at, walks}
 use Rattle.matching.specs.Readings.{Substitution, Reads, Plain, bound-trees}
-use Rattle.matching.specs.Answers.{ended, answered-by, match-answer, steps-of, Match-laws}
+use Rattle.matching.specs.Laws.{moved-bound}
+use Rattle.matching.specs.Answers.{ended, answered-by, match-answer, steps-of, moved-answer, Match-laws}
 use Rattle.matching.proofs.Fuel.{match-walks}
 use Rattle.matching.proofs.Reading.{match-is-a-reading}
 use Rattle.matching.proofs.Plainly.{plain-readings-match}
 use Rattle.matching.proofs.Steps.{two-steps-a-node}
-use Rattle.matching.proofs.Winning.{none-some, blank}
+use Rattle.matching.proofs.Elsewhere.{subtree-alone}
 
 abbrev Answer : Type 0
 Answer = Result Match Refusal
@@ -76,15 +77,27 @@ module _ (m : Forest) (l : Law m) (es : List Element) (f : Well-formed es) (p : 
   answer-out : length m ≤ p → match-answer m es p ≡ Err no-such-place
   answer-out h = cond-false (ltb p (length m)) Here (Err no-such-place) (le-ltb p (length m) h)
 
+  moved-answered : (x y : ℕ) (o : Option Bindings) (k : ℕ) → answered-by (moved-bound x y o) k ≡ moved-answer x y (answered-by o k)
+  moved-answered x y None k = refl
+  moved-answered x y (Some b) k = refl
+
+  inside-alone : p < length m → (n : Forest) (q : ℕ) → Law n → q < length n → subtree m p ≡ subtree n q → match-answer n es q ≡ moved-answer p q Here
+  inside-alone h n q k i e =
+      cond-true (ltb q (length n)) (answered-by (match-at n es q .bound) (match-at n es q .steps)) (Err no-such-place) (lt-ltb q (length n) i)
+      ∙ ap (λ (o : Outcome). answered-by (o .bound) (o .steps)) (subtree-alone m n es p q l k f h i e)
+      ∙ moved-answered p q (match-at m es p .bound) (match-at m es p .steps)
+
   pub laws-hold : (r : Answer) → r ≡ match-answer m es p → Match-laws m es p r
   laws-hold r e = ⊎-elim
       (λ h. subst (Match-laws m es p) (sym (e ∙ answer-in h)) (record {
         reading = λ a k. inside-reading h (match-at m es p .bound) refl a k;
         plain = λ i σ w k. let (b, j) = plain-readings-match m es p l f h σ w k in ap (λ (o : Option Bindings). isOk (answered-by o (match-at m es p .steps))) j;
         brief = inside-brief h (match-at m es p .bound);
+        alone = λ i. inside-alone h;
       }))
       (λ h. subst (Match-laws m es p) (sym (e ∙ answer-out h)) (record {
         reading = λ a k. let z : _≡_ {A = ℕ} 0 1 = cc in absurd (omega arith);
         plain = λ i σ w k. absurd (omega arith);
         brief = omega arith;
+        alone = λ i. absurd (omega arith);
       })) (cases-lt p (length m))

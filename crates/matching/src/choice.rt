@@ -69,8 +69,8 @@ fn choose_behind(elements: &[Element], next: Next) -> Rule
             }
         }
         Next::Leaf(label) => match elements {
-            [Element::Lexeme(lexeme), ..] => {
-                if *lexeme == label {
+            [Element::Lexeme(expected), ..] => {
+                if *expected == label {
                     Rule::BindBeforeLexeme
                 } else {
                     Rule::Open

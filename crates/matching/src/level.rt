@@ -57,32 +57,35 @@ pub(crate) fn match_level<T: Tree>(
             Rule::Stuck => return false,
             Rule::BothGo => {
                 found.steps += 1;
-                rest = &rest[1..];
+                rest = &rest[1..]; // the lexeme goes
                 at += 1;
             }
             Rule::BindBeforeLexeme => {
                 found.steps += 1;
-                if !bind_variable(tree, variable_of(rest), at, node.size, found) {
+                let agrees = bind_variable(tree, variable_of(rest), at, node.size, found);
+                if !agrees {
                     return false;
                 }
-                rest = &rest[2..];
+                rest = &rest[2..]; // the variable and the lexeme go
                 at = at + node.size + 1;
             }
             Rule::BindBeforeInner | Rule::BindLast => {
                 found.steps += 1;
-                if !bind_variable(tree, variable_of(rest), at, node.size, found) {
+                let same = bind_variable(tree, variable_of(rest), at, node.size, found);
+                if !same {
                     return false;
                 }
-                rest = &rest[1..];
+                rest = &rest[1..]; // the variable goes
                 at += node.size;
             }
             Rule::Enter => {
                 found.steps += 1;
                 let size = group_of(rest);
-                if !match_level(tree, &rest[1..size], at + 1, at + node.size, found) {
+                let inner = match_level(tree, &rest[1..size], at + 1, at + node.size, found);
+                if !inner {
                     return false;
                 }
-                rest = &rest[size..];
+                rest = &rest[size..]; // the group goes
                 at += node.size;
             }
             Rule::Open => {

@@ -1,8 +1,7 @@
 // How a pattern is matched at a place of a tree, and the laws of matching.
 ghost use mathlib.Core.Path.{_≡_};
 ghost use Rattle.patterns.specs.Elements.{elements-of};
-ghost use Rattle.matching.specs.Answers.{match-answer, Match-laws};
-ghost use Rattle.matching.specs.Laws.{Match-is-a-reading, Plain-readings-match, Two-steps-a-node, Subtree-alone};
+ghost use Rattle.matching.specs.Answers.{no-match, match-answer, Match-laws};
 ghost use Rattle.matching.specs.Rows.{Eight-rows, Each-rule};
 
 mod binding;
@@ -34,53 +33,27 @@ pub fn match_at<T: Tree>(tree: &T, pattern: &Pattern, place: usize) -> Result<Ma
     if match_level(tree, pattern.elements(), place, place + size, &mut found) {
         Ok(found)
     } else {
-        Err(Refusal {
-            cause: Cause::NoMatch,
-            layer: Layer::Pattern,
-            byte: 0,
-            steps: found.steps,
-        })
+        Err(no_match(found.steps))
     }
 }
 
-/// The bindings of a match are a reading.
-pub fn a_match_is_a_reading() -> u8
-    ensures { λ _. ⌜ Match-is-a-reading ⌝ }
+// The refusal of a match that fails after so many steps.
+fn no_match(steps: u32) -> Refusal
+    ensures { λ r. ⌜ r ≡ no-match steps ⌝ }
 {
-    0
+    Refusal {
+        cause: Cause::NoMatch,
+        layer: Layer::Pattern,
+        byte: 0,
+        steps,
+    }
 }
 
-/// Where there is a plain reading there is a match.
-pub fn plain_readings_match() -> u8
-    ensures { λ _. ⌜ Plain-readings-match ⌝ }
+/// How many worked matches the rules are held to: each has the bindings and the steps that its row says.
+pub fn worked_rows() -> u8
+    ensures rows { λ _. ⌜ Eight-rows ⌝ }
+    ensures more { λ _. ⌜ Each-rule ⌝ }
+    ensures count { λ r. ⌜ r ≡ 19 ⌝ }
 {
-    0
-}
-
-/// A match takes at most two steps a node.
-pub fn two_steps_a_node() -> u8
-    ensures { λ _. ⌜ Two-steps-a-node ⌝ }
-{
-    0
-}
-
-/// A match depends on the subtree alone.
-pub fn the_subtree_alone() -> u8
-    ensures { λ _. ⌜ Subtree-alone ⌝ }
-{
-    0
-}
-
-/// The eight worked rows.
-pub fn eight_rows() -> u8
-    ensures { λ _. ⌜ Eight-rows ⌝ }
-{
-    0
-}
-
-/// More rows, for each choice of a rule.
-pub fn each_rule() -> u8
-    ensures { λ _. ⌜ Each-rule ⌝ }
-{
-    0
+    19
 }

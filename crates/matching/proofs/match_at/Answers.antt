@@ -41,7 +41,7 @@ pub returns-else-match-level : need.returns-else-match-level
 returns-else-match-level g c =
     let (h, k) = size-there (g .T·Meant .meaning (c .args .tree .now)) (c .args .place) (c .in-Continue-size .size) (c .in-Continue-size .ensures tt) in
     let i : ended false (c .match-level .last .found) ≡ tick 0 (walks (g .T·Meant .meaning (c .args .tree .now)) (elements-of (c .args .pattern .now .row)) (c .args .place) (c .args .place + c .in-Continue-size .size) (replicate 16 None)) = c .if-match-level .ensures tt .answer ∙ ap (λ (es : List Element). tick 0 (walks (g .T·Meant .meaning (c .args .tree .now)) es (c .args .place) (c .args .place + c .in-Continue-size .size) (replicate 16 None))) (c .elements .ensures .value) in
-    let e = sym (match-ended (g .T·Meant .meaning (c .args .tree .now)) (g .T·Meant·met .lawful (c .args .tree .now)) (elements-of (c .args .pattern .now .row)) (c .args .place) (c .in-Continue-size .size) h k false (c .match-level .last .found) i) in
+    let e : Err (c .no-match .result) ≡ match-answer (g .T·Meant .meaning (c .args .tree .now)) (elements-of (c .args .pattern .now .row)) (c .args .place) = ap (λ (x : Refusal). Err x) (c .no-match .ensures) ∙ sym (match-ended (g .T·Meant .meaning (c .args .tree .now)) (g .T·Meant·met .lawful (c .args .tree .now)) (elements-of (c .args .pattern .now .row)) (c .args .place) (c .in-Continue-size .size) h k false (c .match-level .last .found) i) in
     record { answer = e; laws = laws-hold (g .T·Meant .meaning (c .args .tree .now)) (g .T·Meant·met .lawful (c .args .tree .now)) (elements-of (c .args .pattern .now .row)) (kept (c .args .pattern .now) .formed) (c .args .place) _ e }
 
 pub returns-in-Break-size : need.returns-in-Break-size
