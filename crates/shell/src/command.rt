@@ -2,13 +2,20 @@
 use crate::operands::read_number;
 use crate::operands::split_word;
 
-/// A line that is a command, with its operands.
+/// A line that is a command, with its operands; hexadecimal bytes and records are still to be read.
 #[derive(Clone, Copy)]
 pub(crate) enum Command<'a> {
     Book(&'a [u8]),
     Label(u32, &'a [u8]),
     CheckBook,
     Name(u32),
+    Image(&'a [u8]),
+    Outline(&'a [u8]),
+    CheckImage(&'a [u8]),
+    CheckOutline(&'a [u8]),
+    Show,
+    Write,
+    Room(u32),
 }
 
 impl<'a> Command<'a> {
@@ -16,13 +23,33 @@ impl<'a> Command<'a> {
     pub(crate) fn read(line: &'a [u8]) -> Option<Command<'a>> {
         let (word, behind) = split_word(line);
         let rest = behind.unwrap_or(b"");
-        match word {
-            b"book" => Some(Command::Book(rest)),
-            b"label" => read_label(rest),
-            b"check-book" => alone(rest, Command::CheckBook),
-            b"name" => Some(Command::Name(read_number(rest)?)),
-            _ => None,
+        match book_command(word, rest) {
+            None => tree_command(word, rest),
+            read => read,
         }
+    }
+}
+
+fn book_command<'a>(word: &[u8], rest: &'a [u8]) -> Option<Command<'a>> {
+    match word {
+        b"book" => Some(Command::Book(rest)),
+        b"label" => read_label(rest),
+        b"check-book" => alone(rest, Command::CheckBook),
+        b"name" => Some(Command::Name(read_number(rest)?)),
+        _ => None,
+    }
+}
+
+fn tree_command<'a>(word: &[u8], rest: &'a [u8]) -> Option<Command<'a>> {
+    match word {
+        b"image" => Some(Command::Image(rest)),
+        b"outline" => Some(Command::Outline(rest)),
+        b"check-image" => Some(Command::CheckImage(rest)),
+        b"check-outline" => Some(Command::CheckOutline(rest)),
+        b"show" => alone(rest, Command::Show),
+        b"write" => alone(rest, Command::Write),
+        b"room" => Some(Command::Room(read_number(rest)?)),
+        _ => None,
     }
 }
 

@@ -1,17 +1,48 @@
 // What a script works on, and what each command does to it.
 use crate::command::Command;
+use crate::operands::cut;
 use crate::operands::read_hex;
+use crate::operands::read_records;
+use crate::print::print_count;
+use crate::print::print_hex;
 use crate::print::print_refusal;
+use crate::print::print_tree;
+use labels::book::Book;
+use refusals::Refusal;
 use std::alloc::AllocError;
 use std::alloc::Global;
 use std::io;
 use std::io::Write;
+use trees::Tree;
+use trees::image::Image;
+use trees::image::check::check_image;
+use trees::image::tree::ImageMeant;
+use trees::image::tree::ImageTree;
+use trees::outline::Outline;
+use trees::outline::Record;
+use trees::outline::check::check_outline;
+use trees::outline::tree::OutlineMeant;
+use trees::outline::tree::OutlineTree;
+use trees::write::write_image;
 
-/// The book of a script.
+// How many bytes the image of the largest tree has.
+const IMAGE_ROOM: usize = 24576;
+
+/// The records of the tree of a script.
+#[derive(Drop)]
+enum Store {
+    Nothing,
+    Image(Vec<u8>),
+    Outline(Vec<Record>),
+}
+
+/// The book and the tree of a script, and the room for the next command that writes.
 #[derive(Drop)]
 pub(crate) struct Desk {
     heap: Global,
     book: Vec<u8>,
+    store: Store,
+    room: Option<u32>,
 }
 
 impl Desk {
@@ -19,6 +50,8 @@ impl Desk {
         Desk {
             heap,
             book: Vec::new(heap),
+            store: Store::Nothing,
+            room: None,
         }
     }
 
@@ -42,11 +75,22 @@ impl Desk {
 
     fn act<W: Write>(&mut self, command: Command<'_>, out: &mut W) -> io::Result<bool> {
         match command {
-            Command::Book(hex) => self.set_book(hex, out),
-            Command::Label(number, name) => self.add_label(number, name, out),
-            Command::CheckBook => self.check_book(out),
-            Command::Name(number) => self.print_name(number, out),
+            Command::Book(hex) => return self.set_book(hex, out),
+            Command::Label(number, name) => self.add_label(number, name, out)?,
+            Command::CheckBook => print_count(out, labels::check(self.book.as_slice()), "records")?,
+            Command::Name(number) => self.print_name(number, out)?,
+            Command::Image(hex) => return self.set_image(hex, out),
+            Command::Outline(text) => return self.set_outline(text, out),
+            Command::CheckImage(hex) => return self.check_image(hex, out),
+            Command::CheckOutline(text) => return self.check_outline(text, out),
+            Command::Show => self.show(out)?,
+            Command::Write => self.write(out)?,
+            Command::Room(room) => {
+                self.room = Some(room);
+                writeln!(out, "ok room {room}")?;
+            }
         }
+        Ok(true)
     }
 
     fn set_book<W: Write>(&mut self, hex: &[u8], out: &mut W) -> io::Result<bool> {
@@ -54,10 +98,11 @@ impl Desk {
             return Ok(false);
         };
         self.book = bytes;
-        self.print_book(out)
+        self.print_book(out)?;
+        Ok(true)
     }
 
-    fn add_label<W: Write>(&mut self, number: u32, name: &[u8], out: &mut W) -> io::Result<bool> {
+    fn add_label<W: Write>(&mut self, number: u32, name: &[u8], out: &mut W) -> io::Result<()> {
         self.push_record(number, name)?;
         self.print_book(out)
     }
@@ -71,29 +116,99 @@ impl Desk {
         self.book.extend_from_slice(name)
     }
 
-    fn print_book<W: Write>(&self, out: &mut W) -> io::Result<bool> {
+    fn print_book<W: Write>(&self, out: &mut W) -> io::Result<()> {
         let count = self.book.len();
-        writeln!(out, "ok book of {count} bytes")?;
-        Ok(true)
+        writeln!(out, "ok book of {count} bytes")
     }
 
-    fn check_book<W: Write>(&self, out: &mut W) -> io::Result<bool> {
-        match labels::check(self.book.as_slice()) {
-            Ok(count) => writeln!(out, "ok {count} records")?,
-            Err(refusal) => print_refusal(out, refusal)?,
-        }
-        Ok(true)
-    }
-
-    fn print_name<W: Write>(&self, number: u32, out: &mut W) -> io::Result<bool> {
-        match labels::name_of(self.book.as_slice(), (number & 0xffff) as u16) {
+    fn print_name<W: Write>(&self, number: u32, out: &mut W) -> io::Result<()> {
+        match labels::name_of(self.book.as_slice(), cut(number)) {
             Ok(name) => {
                 out.write_all(b"ok ")?;
                 out.write_all(name)?;
-                out.write_all(b"\n")?;
+                out.write_all(b"\n")
             }
-            Err(refusal) => print_refusal(out, refusal)?,
+            Err(refusal) => print_refusal(out, refusal),
         }
+    }
+
+    fn set_image<W: Write>(&mut self, hex: &[u8], out: &mut W) -> io::Result<bool> {
+        let Some(mut bytes) = read_hex(self.heap, hex)? else {
+            return Ok(false);
+        };
+        let places = Image::new(bytes.as_mut_slice()).places();
+        self.store = Store::Image(bytes);
+        writeln!(out, "ok image, {places} places")?;
         Ok(true)
+    }
+
+    fn set_outline<W: Write>(&mut self, text: &[u8], out: &mut W) -> io::Result<bool> {
+        let Some(mut records) = read_records(self.heap, text)? else {
+            return Ok(false);
+        };
+        let places = Outline::new(records.as_mut_slice()).places();
+        self.store = Store::Outline(records);
+        writeln!(out, "ok outline, {places} places")?;
+        Ok(true)
+    }
+
+    fn check_image<W: Write>(&self, hex: &[u8], out: &mut W) -> io::Result<bool> {
+        let Some(bytes) = read_hex(self.heap, hex)? else {
+            return Ok(false);
+        };
+        print_count(out, check_image(bytes.as_slice()), "places")?;
+        Ok(true)
+    }
+
+    fn check_outline<W: Write>(&self, text: &[u8], out: &mut W) -> io::Result<bool> {
+        let Some(records) = read_records(self.heap, text)? else {
+            return Ok(false);
+        };
+        print_count(out, check_outline(records.as_slice()), "places")?;
+        Ok(true)
+    }
+
+    fn show<W: Write>(&mut self, out: &mut W) -> io::Result<()> {
+        let (book, _) = Book::open(self.book.as_slice());
+        let ends = Vec::new(self.heap);
+        match &mut self.store {
+            Store::Nothing => writeln!(out, "no tree"),
+            Store::Image(bytes) => {
+                print_tree(out, &Image::new(bytes.as_mut_slice()), &book, ends)
+            }
+            Store::Outline(records) => {
+                print_tree(out, &Outline::new(records.as_mut_slice()), &book, ends)
+            }
+        }
+    }
+
+    // The room for a command that writes, which the command uses up.
+    fn take_room(&mut self, most: usize) -> usize {
+        match self.room.take() {
+            Some(room) => (room as usize).min(most),
+            None => most,
+        }
+    }
+
+    fn write<W: Write>(&mut self, out: &mut W) -> io::Result<()> {
+        let room = self.take_room(IMAGE_ROOM);
+        let mut image = vec![in self.heap; 0u8; room]?;
+        let written = match &mut self.store {
+            Store::Nothing => return writeln!(out, "no tree"),
+            Store::Image(bytes) => {
+                write_image(&Image::new(bytes.as_mut_slice()), image.as_mut_slice())
+            }
+            Store::Outline(records) => {
+                write_image(&Outline::new(records.as_mut_slice()), image.as_mut_slice())
+            }
+        };
+        match written {
+            Ok(count) => {
+                write!(out, "ok {count} bytes ")?;
+                print_hex(out, image.as_slice(), count)?;
+                out.write_all(b"\n")
+            }
+            Err(refusal) => print_refusal(out, refusal),
+        }
     }
 }

@@ -21,68 +21,7 @@ use exchange::exchange;
 use exchange::root_label;
 
 /// The image of a tree of ten nodes.
-const IMAGE: [u8; 60] = [
-    60,
-    0,
-    0,
-    0,
-    1,
-    0,
-    12,
-    0,
-    0,
-    0,
-    2,
-    0,
-    6,
-    0,
-    0,
-    0,
-    4,
-    0,
-    6,
-    0,
-    0,
-    0,
-    5,
-    0,
-    36,
-    0,
-    0,
-    0,
-    3,
-    0,
-    12,
-    0,
-    0,
-    0,
-    2,
-    0,
-    6,
-    0,
-    0,
-    0,
-    6,
-    0,
-    6,
-    0,
-    0,
-    0,
-    7,
-    0,
-    12,
-    0,
-    0,
-    0,
-    2,
-    0,
-    6,
-    0,
-    0,
-    0,
-    8,
-    0,
-];
+const IMAGE: [u8; 60] = *b"\x3c\x00\x00\x00\x01\x00\x0c\x00\x00\x00\x02\x00\x06\x00\x00\x00\x04\x00\x06\x00\x00\x00\x05\x00\x24\x00\x00\x00\x03\x00\x0c\x00\x00\x00\x02\x00\x06\x00\x00\x00\x06\x00\x06\x00\x00\x00\x07\x00\x0c\x00\x00\x00\x02\x00\x06\x00\x00\x00\x08\x00";
 
 /// The values that each byte is changed to.
 const VALUES: [u8; 8] = [0, 1, 5, 6, 12, 127, 128, 255];
@@ -90,10 +29,9 @@ const VALUES: [u8; 8] = [0, 1, 5, 6, 12, 127, 128, 255];
 /// Prints a refusal.
 fn refuse(rt: &impl Print, refusal: Refusal) -> io::Result<()> {
     let number = refusal.cause.number();
-    let words = refusal.cause.words();
     let layer = refusal.layer.number();
     let byte = refusal.byte;
-    print!(rt, "refused {number} {words} (layer {layer}, byte {byte})")
+    print!(rt, "refused {number} (layer {layer}, byte {byte})")
 }
 
 /// Prints what the check answers, and the tree that is made.

@@ -6,13 +6,13 @@ ghost use Rattle.trees.specs.Images.{length-in, label-in, Record-bytes};
 
 /// What the record of a place begins with: its length in bytes, and its label.
 #[derive(Clone, Copy)]
-pub struct Head {
-    pub length: usize,
-    pub label: u16,
+pub(crate) struct Head {
+    pub(crate) length: usize,
+    pub(crate) label: u16,
 }
 
 /// The length of the record of a place.
-pub fn length_at(bytes: &[u8], place: usize) -> usize
+pub(crate) fn length_at(bytes: &[u8], place: usize) -> usize
     requires { ⌜ 6 * place + 6 ≤ length (now bytes) ⌝ }
     ensures value { λ r. ⌜ r ≡ length-in (now (bytes .entry)) place ⌝ }
     ensures fits { λ r. ⌜ r < 2 ^ 32 ⌝ }
@@ -26,7 +26,7 @@ pub fn length_at(bytes: &[u8], place: usize) -> usize
 }
 
 /// The label of the record of a place.
-pub fn label_at(bytes: &[u8], place: usize) -> u16
+pub(crate) fn label_at(bytes: &[u8], place: usize) -> u16
     requires { ⌜ 6 * place + 6 ≤ length (now bytes) ⌝ }
     ensures value { λ r. ⌜ r ≡ label-in (now (bytes .entry)) place ⌝ }
     ensures low { λ r. ⌜ getD (now (bytes .entry)) (6 * place + 4) 0 < 256 ⌝ ∗ ⌜ getD (now (bytes .entry)) (6 * place + 5) 0 < 256 ⌝ }
@@ -35,7 +35,7 @@ pub fn label_at(bytes: &[u8], place: usize) -> u16
 }
 
 /// The length and the label of the record of a place.
-pub fn head_at(bytes: &[u8], place: usize) -> Head
+pub(crate) fn head_at(bytes: &[u8], place: usize) -> Head
     requires { ⌜ 6 * place + 6 ≤ length (now bytes) ⌝ }
     ensures length { λ r. ⌜ r .length ≡ length-in (now (bytes .entry)) place ⌝ }
     ensures label { λ r. ⌜ r .label ≡ label-in (now (bytes .entry)) place ⌝ }
