@@ -4,21 +4,21 @@ use std::io;
 use trees::Tree;
 use trees::any::same_tree;
 use trees::image::Image;
-use trees::image::check::check_image;
-use trees::image::tree::ImageChangeable;
-use trees::image::tree::ImageMeant;
-use trees::image::tree::ImageTree;
+use trees::image::ImageChangeable;
+use trees::image::ImageMeant;
+use trees::image::ImageTree;
+use trees::image::check_image;
 use trees::outline::Outline;
+use trees::outline::OutlineChangeable;
+use trees::outline::OutlineMeant;
+use trees::outline::OutlineTree;
 use trees::outline::Record;
-use trees::outline::tree::OutlineChangeable;
-use trees::outline::tree::OutlineMeant;
-use trees::outline::tree::OutlineTree;
 use trees::write::write_image;
 
 mod exchange;
 
 use exchange::exchange;
-use exchange::root_label;
+use exchange::root_of;
 
 /// The image of a tree of ten nodes.
 const IMAGE: [u8; 60] = *b"\x3c\x00\x00\x00\x01\x00\x0c\x00\x00\x00\x02\x00\x06\x00\x00\x00\x04\x00\x06\x00\x00\x00\x05\x00\x24\x00\x00\x00\x03\x00\x0c\x00\x00\x00\x02\x00\x06\x00\x00\x00\x06\x00\x06\x00\x00\x00\x07\x00\x0c\x00\x00\x00\x02\x00\x06\x00\x00\x00\x08\x00";
@@ -40,9 +40,9 @@ fn outcome(rt: &impl Print, bytes: &mut [u8]) -> io::Result<()> {
         Ok(places) => print!(rt, "ok {places} places")?,
         Err(refusal) => refuse(rt, refusal)?,
     }
+    let root = root_of(bytes);
     let tree = Image::new(bytes);
     let places = tree.places();
-    let root = root_label(&tree);
     println!(rt, ", made {places} places under {root}")
 }
 

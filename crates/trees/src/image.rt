@@ -5,9 +5,14 @@ ghost use denote.Ref.{now};
 ghost use Rattle.std.specs.Results.{isOk};
 ghost use Rattle.trees.specs.Images.{image-answer};
 
-pub mod check;
+mod check;
 mod head;
-pub mod tree;
+mod tree;
+
+pub use check::check_image;
+pub use tree::ImageChangeable;
+pub use tree::ImageMeant;
+pub use tree::ImageTree;
 
 /// A tree over lent bytes. Of faulty bytes it is a single leaf, held beside them.
 #[derive(Drop)]

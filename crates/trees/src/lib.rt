@@ -8,6 +8,7 @@ use refusals::Refusal;
 
 pub mod any;
 pub mod image;
+pub mod limits;
 pub mod outline;
 mod record;
 pub mod write;

@@ -6,8 +6,13 @@ ghost use Rattle.std.specs.Results.{isOk};
 ghost use Rattle.trees.specs.Outlines.{outline-answer};
 pub use crate::record::Record;
 
-pub mod check;
-pub mod tree;
+mod check;
+mod tree;
+
+pub use check::check_outline;
+pub use tree::OutlineChangeable;
+pub use tree::OutlineMeant;
+pub use tree::OutlineTree;
 
 /// A tree over lent records. Of faulty records it is a single leaf, held beside them.
 #[derive(Drop)]

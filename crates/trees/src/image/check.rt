@@ -8,18 +8,13 @@ ghost use Rattle.trees.specs.Laws.{One-image, Takes-images};
 ghost use Rattle.trees.specs.Opened.{popped, top};
 use crate::image::head::head_at;
 use crate::image::head::length_at;
+use crate::limits::MAX_DEPTH;
+use crate::limits::MAX_LABEL;
+use crate::limits::MAX_PLACES;
+use crate::limits::RECORD_BYTES;
 use refusals::Cause;
 use refusals::Layer;
 use refusals::Refusal;
-
-/// How many bytes a record has besides the records under it.
-const RECORD: usize = 6;
-/// A tree's greatest label.
-const MAX_LABEL: u16 = 32767;
-/// The last place that a tree can have.
-const LAST_PLACE: usize = 4095;
-/// The greatest depth of a node.
-const MAX_DEPTH: usize = 63;
 
 /// How many of the first `open` ends are left when those that lie at or before a place are taken off.
 fn pop(ends: &[usize], open: usize, place: usize) -> usize
@@ -54,15 +49,18 @@ fn fault(bytes: &[u8], place: usize, depth: usize, end: usize) -> Option<Cause>
     if place > 0 && depth == 0 {
         return Some(Cause::OneTree);
     }
-    if bytes.len() < RECORD * place + RECORD {
+    if bytes.len() < RECORD_BYTES * place + RECORD_BYTES {
         return Some(Cause::BadLength);
     }
     let head = head_at(bytes, place);
-    if head.length < RECORD || place + head.length / RECORD > end || head.length % RECORD > 0 {
+    if head.length < RECORD_BYTES
+        || place + head.length / RECORD_BYTES > end
+        || head.length % RECORD_BYTES > 0
+    {
         Some(Cause::BadLength)
     } else if head.label > MAX_LABEL {
         Some(Cause::BadLabel)
-    } else if place > LAST_PLACE || depth > MAX_DEPTH {
+    } else if place >= MAX_PLACES || depth > MAX_DEPTH as usize {
         Some(Cause::TooMany)
     } else {
         None
@@ -78,16 +76,16 @@ pub fn check_image(bytes: &[u8]) -> Result<usize, Refusal>
     if bytes.len() == 0 {
         return Err(Refusal::at(Cause::OneTree, Layer::Image, 0));
     }
-    let whole = bytes.len() / RECORD;
+    let whole = bytes.len() / RECORD_BYTES;
     let mut ends = [0usize; 64];
     let mut used = 0usize;
-    for place in 0..(bytes.len() + 5) / RECORD {
+    for place in 0..(bytes.len() + 5) / RECORD_BYTES {
         let depth = pop(&ends, used, place);
         let end = innermost(&ends, depth, whole);
         if let Some(cause) = fault(bytes, place, depth, end) {
-            return Err(Refusal::at(cause, Layer::Image, RECORD * place));
+            return Err(Refusal::at(cause, Layer::Image, RECORD_BYTES * place));
         }
-        ends[depth] = place + length_at(bytes, place) / RECORD;
+        ends[depth] = place + length_at(bytes, place) / RECORD_BYTES;
         used = depth + 1;
     }
     Ok(whole)

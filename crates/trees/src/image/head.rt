@@ -3,6 +3,7 @@ ghost use mathlib.Core.Path.{_≡_};
 ghost use Prim.Native.Nat.{ℕ, _+_, _*_, _<_, _≤_, _^_};
 ghost use lib.ListN.{length, getD};
 ghost use Rattle.trees.specs.Images.{length-in, label-in, Record-bytes};
+use crate::limits::RECORD_BYTES;
 
 /// What the record of a place begins with: its length in bytes, and its label.
 #[derive(Clone, Copy)]
@@ -18,10 +19,10 @@ pub(crate) fn length_at(bytes: &[u8], place: usize) -> usize
     ensures fits { λ r. ⌜ r < 2 ^ 32 ⌝ }
     ensures low { λ r. ⌜ ((k : ℕ) → k < 4 → getD (now (bytes .entry)) (6 * place + k) 0 < 256) ⌝ }
 {
-    let a = bytes[6 * place] as usize;
-    let b = bytes[6 * place + 1] as usize;
-    let c = bytes[6 * place + 2] as usize;
-    let d = bytes[6 * place + 3] as usize;
+    let a = bytes[RECORD_BYTES * place] as usize;
+    let b = bytes[RECORD_BYTES * place + 1] as usize;
+    let c = bytes[RECORD_BYTES * place + 2] as usize;
+    let d = bytes[RECORD_BYTES * place + 3] as usize;
     a + 256 * b + 65536 * c + 16777216 * d
 }
 
@@ -31,7 +32,7 @@ pub(crate) fn label_at(bytes: &[u8], place: usize) -> u16
     ensures value { λ r. ⌜ r ≡ label-in (now (bytes .entry)) place ⌝ }
     ensures low { λ r. ⌜ getD (now (bytes .entry)) (6 * place + 4) 0 < 256 ⌝ ∗ ⌜ getD (now (bytes .entry)) (6 * place + 5) 0 < 256 ⌝ }
 {
-    u16::from(bytes[6 * place + 4]) + 256 * u16::from(bytes[6 * place + 5])
+    u16::from(bytes[RECORD_BYTES * place + 4]) + 256 * u16::from(bytes[RECORD_BYTES * place + 5])
 }
 
 /// The length and the label of the record of a place.

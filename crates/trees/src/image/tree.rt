@@ -15,14 +15,11 @@ use crate::image::Image;
 use crate::image::check::check_image;
 use crate::image::head::label_at;
 use crate::image::head::length_at;
+use crate::limits::MAX_LABEL;
+use crate::limits::RECORD_BYTES;
 use refusals::Cause;
 use refusals::Layer;
 use refusals::Refusal;
-
-/// How many bytes a record has besides the records under it.
-const RECORD: usize = 6;
-/// A tree's greatest label.
-const MAX_LABEL: u16 = 32767;
 
 impl<'a> Image<'a> {
     /// The tree of these bytes, or a leaf with label 0 beside them if they are faulty.
@@ -48,8 +45,8 @@ impl Image<'_> {
         ensures flag { λ _. ⌜ now (self .exit) .sound ≡ now (self .entry) .sound ⌝ }
         ensures beside { λ _. ⌜ now (self .exit) .leaf ≡ now (self .entry) .leaf ⌝ }
     {
-        self.bytes[6 * place + 4] = (label % 256) as u8;
-        self.bytes[6 * place + 5] = (label / 256) as u8;
+        self.bytes[RECORD_BYTES * place + 4] = (label % 256) as u8;
+        self.bytes[RECORD_BYTES * place + 5] = (label / 256) as u8;
     }
 }
 
@@ -60,7 +57,7 @@ pub impl Meant for Image<'_> as ImageMeant {
 pub impl Tree for Image<'_> as ImageTree {
     fn places(&self) -> usize {
         if self.sound {
-            self.bytes.len() / RECORD
+            self.bytes.len() / RECORD_BYTES
         } else {
             1
         }
@@ -82,7 +79,7 @@ pub impl Tree for Image<'_> as ImageTree {
             return Err(Refusal::at(Cause::NoSuchPlace, Layer::Tree, 0));
         }
         if self.sound {
-            Ok(length_at(self.bytes, place) / RECORD)
+            Ok(length_at(self.bytes, place) / RECORD_BYTES)
         } else {
             Ok(1)
         }
@@ -93,6 +90,7 @@ pub impl ChangeableTree for Image<'_> as ImageChangeable {
     fn put(&mut self, place: usize, label: u16) -> Result<(), Refusal>
         ensures answer { λ r. ⌜ r ≡ put-answer (image-tree (now (self .entry))) place label ⌝ }
         ensures done { λ r. ⌜ Cases r (λ _. image-tree (now (self .exit)) ≡ relabel (image-tree (now (self .entry))) place label) (λ _. now (self .exit) ≡ now (self .entry)) ⌝ }
+        ensures flag { λ _. ⌜ now (self .exit) .sound ≡ now (self .entry) .sound ⌝ }
         ensures beside { λ r. ⌜ (now (self .entry) .sound ≡ false → now (now (self .exit) .bytes) ≡ now (now (self .entry) .bytes)) ⌝ }
     {
         if place >= self.places() {

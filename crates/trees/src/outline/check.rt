@@ -3,17 +3,13 @@ ghost use mathlib.Core.Path.{_≡_};
 ghost use Prim.Native.Nat.{_<_, _≤_};
 ghost use Rattle.trees.specs.Outlines.{record-fault, outline-answer};
 ghost use Rattle.trees.specs.Laws.{Takes-outlines};
+use crate::limits::MAX_DEPTH;
+use crate::limits::MAX_LABEL;
+use crate::limits::MAX_PLACES;
 use crate::record::Record;
 use refusals::Cause;
 use refusals::Layer;
 use refusals::Refusal;
-
-/// A tree's greatest label.
-const MAX_LABEL: u16 = 32767;
-/// The number of the last record that a tree can have.
-const LAST_RECORD: usize = 4095;
-/// The greatest depth of a node.
-const MAX_DEPTH: u16 = 63;
 
 /// What is wrong with the record of a number whose depth may be up to a limit.
 fn fault(number: usize, limit: u16, record: Record) -> Option<Cause>
@@ -25,7 +21,7 @@ fn fault(number: usize, limit: u16, record: Record) -> Option<Cause>
         Some(Cause::BadLength)
     } else if record.label > MAX_LABEL {
         Some(Cause::BadLabel)
-    } else if number > LAST_RECORD || record.depth > MAX_DEPTH {
+    } else if number >= MAX_PLACES || record.depth > MAX_DEPTH {
         Some(Cause::TooMany)
     } else {
         None

@@ -11,15 +11,13 @@ ghost use Rattle.trees.specs.Made.{outline-tree};
 use crate::ChangeableTree;
 use crate::Meant;
 use crate::Tree;
+use crate::limits::MAX_LABEL;
 use crate::outline::Outline;
 use crate::outline::check::check_outline;
 use crate::record::Record;
 use refusals::Cause;
 use refusals::Layer;
 use refusals::Refusal;
-
-/// A tree's greatest label.
-const MAX_LABEL: u16 = 32767;
 
 /// How many nodes the subtree at a place has: its record and the deeper ones that follow.
 fn span(records: &[Record], place: usize) -> usize
@@ -86,6 +84,7 @@ pub impl ChangeableTree for Outline<'_> as OutlineChangeable {
     fn put(&mut self, place: usize, label: u16) -> Result<(), Refusal>
         ensures answer { λ r. ⌜ r ≡ put-answer (outline-tree (now (self .entry))) place label ⌝ }
         ensures done { λ r. ⌜ Cases r (λ _. outline-tree (now (self .exit)) ≡ relabel (outline-tree (now (self .entry))) place label) (λ _. now (self .exit) ≡ now (self .entry)) ⌝ }
+        ensures flag { λ _. ⌜ now (self .exit) .sound ≡ now (self .entry) .sound ⌝ }
         ensures beside { λ r. ⌜ (now (self .entry) .sound ≡ false → now (now (self .exit) .records) ≡ now (now (self .entry) .records)) ⌝ }
     {
         if place >= self.places() {

@@ -1,3 +1,4 @@
+-- What the proof of `exchange::exchange` is asked to show.
 use mathlib.Core.Path.{sym, _∙_}
 use Rattle.tree_damage.proofs.Exchanges.{second-put, accepted}
 use Rattle.tree_damage.proofs.exchange.exchange.Needs as need

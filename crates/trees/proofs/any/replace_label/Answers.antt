@@ -1,3 +1,4 @@
+-- What the proof of `any::replace_label` is asked to show.
 use mathlib.Core.Path.{sym}
 use borrow.Author.Needs.{needs}
 use Rattle.trees.proofs.Relabel.{relabel-goes-back, relabel-keeps-the-law}

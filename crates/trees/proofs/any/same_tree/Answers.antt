@@ -1,3 +1,4 @@
+-- What the proof of `any::same_tree` is asked to show.
 use mathlib.Core.Path.{_≡_, sym, _∙_}
 use mathlib.Core.Bool.{true, false}
 use native.Mathlib.Omega.{arith}

@@ -1,3 +1,4 @@
+-- What holds in the loop of `any::same_tree`.
 use mathlib.Core.Path.{_≡_}
 use lib.ListN.{drop}
 use Rattle.trees.specs.Forest.{same}

@@ -1,3 +1,4 @@
+-- What the proof of `write::write_image` is asked to show.
 use mathlib.Core.Path.{_≡_, refl, sym, ap, _∙_}
 use mathlib.Core.Bool.{false}
 use mathlib.Core.List.{_++_}

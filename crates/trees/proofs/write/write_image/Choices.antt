@@ -1,3 +1,4 @@
+-- What holds in the loop of `write::write_image`.
 use mathlib.Core.Path.{_≡_}
 use mathlib.Core.List.{_++_}
 use Prim.Native.Nat.{_*_}

@@ -1,3 +1,4 @@
+-- What the proof of `image::Image::new` is asked to show.
 use mathlib.Core.Path.{_≡_, refl, ap, _∙_}
 use borrow.Author.Needs.{needs}
 use Rattle.std.specs.Results.{isOk}

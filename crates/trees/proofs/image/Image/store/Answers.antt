@@ -1,3 +1,4 @@
+-- What the proof of `image::Image::store` is asked to show.
 use mathlib.Core.Path.{_≡_, sym, _∙_, ap, refl}
 use mathlib.Core.Bool.{true}
 use Prim.Native.Nat.{_+_, _*_, _/_, _%_, _<_}

@@ -1,3 +1,4 @@
+-- What the proof of `image::check::check_image` is asked to show.
 use mathlib.Core.Path.{_≡_, refl, sym, ap, _∙_}
 use Prim.Native.Nat.{_+_, _/_, _<_}
 use native.Mathlib.Omega.{arith}

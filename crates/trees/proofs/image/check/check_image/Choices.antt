@@ -1,3 +1,4 @@
+-- What holds in the loop of `image::check::check_image`.
 use mathlib.Core.Path.{_≡_}
 use Prim.Native.Nat.{ℕ, _≤_, _<_}
 use lib.ListN.{length}

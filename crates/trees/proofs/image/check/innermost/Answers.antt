@@ -1,3 +1,4 @@
+-- What the proof of `image::check::innermost` is asked to show.
 use mathlib.Core.Path.{_≡_, sym}
 use Prim.Native.Nat.{suc, _-_}
 use native.Mathlib.Omega.{arith}

@@ -1,3 +1,4 @@
+-- What the proof of `image::check::pop` is asked to show.
 use mathlib.Core.Path.{_≡_, sym, _∙_}
 use Prim.Native.Nat.{suc, _-_}
 use native.Mathlib.Omega.{arith}

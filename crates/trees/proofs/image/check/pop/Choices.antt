@@ -1,3 +1,4 @@
+-- What holds in the loop of `image::check::pop`.
 use mathlib.Core.Path.{_≡_}
 use Prim.Native.Nat.{_≤_}
 use Rattle.trees.specs.Opened.{popped, top}

@@ -1,3 +1,4 @@
+-- What the proof of `outline::Outline::new` is asked to show.
 use mathlib.Core.Path.{_≡_, refl, sym, ap, _∙_}
 use borrow.Author.Needs.{needs}
 use Rattle.std.specs.Results.{isOk}

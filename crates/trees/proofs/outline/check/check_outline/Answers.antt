@@ -1,3 +1,4 @@
+-- What the proof of `outline::check::check_outline` is asked to show.
 use mathlib.Core.Path.{_≡_, refl, sym, ap, _∙_}
 use native.Mathlib.Omega.{arith}
 use native.Mathlib.Numerals.{add-one}

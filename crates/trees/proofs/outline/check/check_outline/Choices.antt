@@ -1,3 +1,4 @@
+-- What holds in the loop of `outline::check::check_outline`.
 use mathlib.Core.Path.{_≡_}
 use Prim.Native.Nat.{_≤_}
 use Rattle.trees.specs.Outlines.{depth-limit, outline-fault}

@@ -1,3 +1,4 @@
+-- What the proof of `outline::tree::span` is asked to show.
 use mathlib.Core.Path.{ap}
 use Prim.Native.Nat.{_+_}
 use native.Mathlib.Omega.{arith}

@@ -1,3 +1,4 @@
+-- What holds in the loop of `outline::tree::span`.
 use mathlib.Core.Path.{_≡_}
 use Prim.Native.Nat.{_≤_, _+_, _-_}
 use lib.ListN.{drop, length}

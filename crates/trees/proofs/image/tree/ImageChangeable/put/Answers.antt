@@ -1,3 +1,4 @@
+-- What the proof of `image::tree::ImageChangeable::put` is asked to show.
 use Prim.Native.Nat.{_/_, _<_}
 use native.Mathlib.Omega.{arith}
 use lib.ListN.{length}

@@ -1,3 +1,4 @@
+-- What the proof of `image::tree::ImageTree::places` is asked to show.
 use Rattle.trees.proofs.ImagePuts.{length-kept}
 use Rattle.trees.proofs.image.tree.ImageTree.places.Needs as need
 

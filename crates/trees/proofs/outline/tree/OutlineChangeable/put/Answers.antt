@@ -1,4 +1,5 @@
-use mathlib.Core.Path.{sym, _∙_}
+-- What the proof of `outline::tree::OutlineChangeable::put` is asked to show.
+use mathlib.Core.Path.{refl, sym, _∙_}
 use native.Mathlib.Omega.{arith}
 use borrow.Author.Needs.{needs}
 use Rattle.trees.proofs.OutlinePuts.{length-kept, few-kept, sound-stored, put-kept}
@@ -23,5 +24,6 @@ returns-then-self c =
     record {
       answer = search needs;
       done = put-kept (s .sound) (s .records .now) (s .leaf) (c .args .place) (c .args .label) (c .if-self .taken);
+      flag = refl;
       beside = search needs;
     }

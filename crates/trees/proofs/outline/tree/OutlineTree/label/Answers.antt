@@ -1,3 +1,4 @@
+-- What the proof of `outline::tree::OutlineTree::label` is asked to show.
 use native.Mathlib.Omega.{arith}
 use borrow.Author.Needs.{needs}
 use Rattle.trees.specs.Outlines.{outline-nodes}

@@ -1,3 +1,4 @@
+-- What the proof of `outline::tree::OutlineTree::places` is asked to show.
 use Rattle.trees.proofs.OutlinePuts.{length-kept}
 use Rattle.trees.proofs.outline.tree.OutlineTree.places.Needs as need
 

@@ -1,3 +1,4 @@
+-- What the proof of `outline::tree::OutlineTree::size` is asked to show.
 use native.Mathlib.Omega.{arith}
 use Rattle.trees.proofs.OutlinePuts.{length-kept, few-kept}
 use Rattle.trees.proofs.outline.tree.OutlineTree.size.Needs as need
