@@ -17,12 +17,12 @@ use Rattle.std.specs.Results.{isOk}
 use Rattle.refusals.specs.declared.Refusal.{Refusal}
 use Rattle.trees.specs.Forest.{Forest, Law, size-at, label-at, subtree}
 use Rattle.trees.specs.Questions.{size-answer, label-answer, no-such-place}
-use Rattle.trees.proofs.Windows.{Sound, sound}
+use Rattle.trees.proofs.Windows.{sound}
 use Rattle.patterns.specs.declared.row.Element.{Element}
 use Rattle.patterns.specs.Elements.{Well-formed}
 use Rattle.matching.specs.declared.found.Match.{Match}
 use Rattle.matching.specs.Rules.{Bindings, Outcome, tick, match-at, walks}
-use Rattle.matching.specs.Readings.{Substitution, Reads, Plain, bound-trees}
+use Rattle.matching.specs.Readings.{Reads, bound-trees}
 use Rattle.matching.specs.Laws.{moved-bound}
 use Rattle.matching.specs.Answers.{ended, answered-by, match-answer, steps-of, moved-answer, Match-laws}
 use Rattle.matching.proofs.Fuel.{match-walks}

@@ -1,7 +1,6 @@
 // How the elements of a level are matched with the nodes between two places.
 ghost use mathlib.Core.Path.{_≡_};
 ghost use Prim.Native.Nat.{_+_, _-_, _*_, _≤_, _<_};
-ghost use lib.ListN.{length};
 ghost use Rattle.trees.proofs.Windows.{Fits};
 ghost use Rattle.matching.specs.Rules.{variable, group, tick, walks};
 ghost use Rattle.matching.specs.Levels.{Level, Known, Bound-inside};

@@ -1,5 +1,5 @@
 -- The node behind is what follows.
-use mathlib.Core.Path.{_≡_, ap, _∙_}
+use mathlib.Core.Path.{ap, _∙_}
 use Rattle.matching.specs.Rules.{choose-last}
 use Rattle.matching.proofs.choice.look_behind.Needs as need
 

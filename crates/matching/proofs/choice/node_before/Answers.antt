@@ -1,5 +1,5 @@
 -- What a window begins with.
-use mathlib.Core.Path.{_≡_, sym, _∙_}
+use mathlib.Core.Path.{sym, _∙_}
 use mathlib.Core.Bool.{cond}
 use lib.Dec.{ltb}
 use Rattle.matching.specs.declared.rule.Next.the-variants.{Inner, Leaf}

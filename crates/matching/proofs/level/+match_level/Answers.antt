@@ -2,19 +2,19 @@
 use mathlib.Core.Path.{_≡_, sym, _∙_, subst}
 use mathlib.Core.List.{List}
 use mathlib.Core.Logic.{⊎-elim}
-use Prim.Native.Nat.{ℕ, _+_, _-_, _*_, _<_, _≤_}
+use Prim.Native.Nat.{ℕ, _+_, _-_, _<_, _≤_}
 use native.Mathlib.Omega.{arith}
 use lib.Dec.{eqb}
 use lib.ListN.{take, drop, length}
 use Rattle.std.proofs.shelf.Tests.{eqb-true, eq-eqb}
 use Rattle.trees.specs.Forest.{Forest}
-use Rattle.trees.proofs.Windows.{Sound, sound, Fits, fits-inner}
+use Rattle.trees.proofs.Windows.{sound, Fits, fits-inner}
 use Rattle.patterns.specs.declared.row.Element.{Element}
 use Rattle.matching.specs.declared.found.Match.{Match}
-use Rattle.matching.specs.Rules.{Outcome, group, variable}
+use Rattle.matching.specs.Rules.{Outcome}
 use Rattle.matching.specs.Levels.{Level}
 use Rattle.matching.proofs.Wholes.{group-inside, level-group, variable-small}
-use Rattle.matching.proofs.Walking.{Reached, Chosen, chosen-suited, was-done, was-stuck, both-went, was-opened, bound-lexeme, bound-inner, bound-last, differs-lexeme, differs-inner, differs-last, entered, not-entered, at-end, rest-all}
+use Rattle.matching.proofs.Walking.{Reached, chosen-suited, was-done, was-stuck, both-went, was-opened, bound-lexeme, bound-inner, bound-last, differs-lexeme, differs-inner, differs-last, entered, not-entered, at-end, rest-all}
 use Rattle.matching.proofs.level.+match_level.Needs as need
 
 -- a level reached with the elements behind the first k, as a part of a slice is written
