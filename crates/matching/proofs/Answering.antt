@@ -15,14 +15,14 @@ use Rattle.std.specs.declared.result.Result.{Result}
 use Rattle.std.specs.declared.result.Result.the-variants.{Ok, Err}
 use Rattle.std.specs.Results.{isOk}
 use Rattle.refusals.specs.declared.Refusal.{Refusal}
-use Rattle.trees.specs.Forest.{Forest, Law, size-at, subtree}
-use Rattle.trees.specs.Questions.{size-answer, no-such-place}
-use Rattle.trees.proofs.Windows.{Sound, sound}
+use Rattle.trees.specs.Forest.{Forest, Law, size-at, label-at, subtree}
+use Rattle.trees.specs.Questions.{size-answer, label-answer, no-such-place}
+use Rattle.trees.proofs.Windows.{sound}
 use Rattle.patterns.specs.declared.row.Element.{Element}
 use Rattle.patterns.specs.Elements.{Well-formed}
 use Rattle.matching.specs.declared.found.Match.{Match}
 use Rattle.matching.specs.Rules.{Bindings, Outcome, tick, match-at, walks}
-use Rattle.matching.specs.Readings.{Substitution, Reads, Plain, bound-trees}
+use Rattle.matching.specs.Readings.{Reads, bound-trees}
 use Rattle.matching.specs.Laws.{moved-bound}
 use Rattle.matching.specs.Answers.{ended, answered-by, match-answer, steps-of, moved-answer, Match-laws}
 use Rattle.matching.proofs.Fuel.{match-walks}
@@ -42,12 +42,25 @@ size-there m p n h = go (ltb p (length m)) refl h
     go true e h = (ltb-true p (length m) e, cc)
     go false e h = let z : _≡_ {A = ℕ} 0 1 = cc in absurd (omega arith)
 
-pub size-refused : (m : Forest) (es : List Element) (p : ℕ) (e : Refusal) → Err e ≡ size-answer m p → Err e ≡ match-answer m es p
-size-refused m es p e h = go (ltb p (length m)) h
+refused-by : (m : Forest) (es : List Element) (p : ℕ) (e : Refusal) (v : ℕ) → Err e ≡ cond (ltb p (length m)) (Ok v) (Err no-such-place) → Err e ≡ match-answer m es p
+refused-by m es p e v h = go (ltb p (length m)) h
   where
-    go : (t : Bool) → _≡_ {A = Result ℕ Refusal} (Err e) (cond t (Ok (size-at m p)) (Err no-such-place)) → _≡_ {A = Answer} (Err e) (cond t (answered-by (match-at m es p .bound) (match-at m es p .steps)) (Err no-such-place))
+    go : (t : Bool) → _≡_ {A = Result ℕ Refusal} (Err e) (cond t (Ok v) (Err no-such-place)) → _≡_ {A = Answer} (Err e) (cond t (answered-by (match-at m es p .bound) (match-at m es p .steps)) (Err no-such-place))
     go true h = let z : _≡_ {A = ℕ} 0 1 = cc in absurd (omega arith)
     go false h = cc
+
+pub size-refused : (m : Forest) (es : List Element) (p : ℕ) (e : Refusal) → Err e ≡ size-answer m p → Err e ≡ match-answer m es p
+size-refused m es p e h = refused-by m es p e (size-at m p) h
+
+pub label-there : (m : Forest) (p n : ℕ) → Ok n ≡ label-answer m p → n ≡ label-at m p
+label-there m p n h = go (ltb p (length m)) h
+  where
+    go : (t : Bool) → _≡_ {A = Result ℕ Refusal} (Ok n) (cond t (Ok (label-at m p)) (Err no-such-place)) → n ≡ label-at m p
+    go true h = cc
+    go false h = let z : _≡_ {A = ℕ} 0 1 = cc in absurd (omega arith)
+
+pub label-refused : (m : Forest) (es : List Element) (p : ℕ) (e : Refusal) → Err e ≡ label-answer m p → Err e ≡ match-answer m es p
+label-refused m es p e h = refused-by m es p e (label-at m p) h
 
 -- what the level at the place comes to
 pub match-ended : (m : Forest) → Law m → (es : List Element) (p n : ℕ) → p < length m → n ≡ size-at m p → (t : Bool) (a : Match) → ended t a ≡ tick 0 (walks m es p (p + n) (replicate 16 None)) → match-answer m es p ≡ answered-by (ended t a .bound) (ended t a .steps)

@@ -4,7 +4,7 @@ use mathlib.Core.List.{List, [], _∷_}
 use mathlib.Core.Bool.{Bool, true, false, cond}
 use Prim.Native.Nat.{ℕ, _<_, _≤_}
 use native.Mathlib.Omega.{arith}
-use lib.Dec.{ltb, eqb}
+use lib.Dec.{ltb}
 use lib.ListN.{length}
 use Rattle.std.specs.declared.option.Option.{Option}
 use Rattle.trees.specs.Forest.{Forest, size-at, label-at}
@@ -16,7 +16,7 @@ use Rattle.matching.specs.declared.rule.Next.{Next}
 use Rattle.matching.specs.declared.rule.Next.the-variants.{Nothing, Leaf, Inner}
 use Rattle.matching.specs.declared.rule.Rule.{Rule}
 use Rattle.matching.specs.declared.rule.Rule.the-variants.{Done, Stuck, BothGo, BindBeforeLexeme, BindBeforeInner, BindLast, Enter, Open}
-use Rattle.matching.specs.Rules.{alike, fits, next, choose, choose-none, choose-last, choose-inner, choose-leaf, group}
+use Rattle.matching.specs.Rules.{alike, fits, next, choose-last, choose-inner, choose-leaf, group}
 
 pub next-win : (m : Forest) (p e : ℕ) → p < e → e ≤ length m → next (win m p e) ≡ cond (ltb 1 (size-at m p)) Inner (Leaf (label-at m p))
 next-win m p e h k = ap next (win-cons m p e h k)

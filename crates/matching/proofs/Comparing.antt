@@ -1,9 +1,9 @@
 -- Two subtrees, compared pair by pair.
-use mathlib.Core.Path.{_≡_, refl, sym, ap, _∙_, subst}
+use mathlib.Core.Path.{_≡_, sym, ap, _∙_}
 use mathlib.Core.List.{[], _∷_}
 use mathlib.Core.Logic.{⊎-elim}
-use mathlib.Core.Bool.{true, false, cond, _&&_}
-use Prim.Native.Nat.{ℕ, _+_, _-_, _<_, _≤_}
+use mathlib.Core.Bool.{Bool, true, false, _&&_}
+use Prim.Native.Nat.{ℕ, _+_, _<_}
 use native.Mathlib.Nat.{add-zero}
 use native.Mathlib.Omega.{arith}
 use lib.Dec.{eqb}
@@ -11,6 +11,10 @@ use lib.ListN.{getD, length}
 use Rattle.std.proofs.shelf.Tests.{and-parts, eqb-true, cases-lt, cond-true, cond-false}
 use Rattle.trees.specs.Forest.{Forest, no-node, size-at, label-at, subtree, same-node, same, compared}
 use Rattle.trees.proofs.Windows.{win, win-none, win-cons, subtree-win, Sound, fits-whole}
+
+-- the test of two nodes by what is known of them
+pub nodes-tested : (m : Forest) (q p : ℕ) (k l x y : ℕ) (t : Bool) → k ≡ label-at m q → x ≡ size-at m q → l ≡ label-at m p → y ≡ size-at m p → t ≡ eqb k l && eqb x y → same-node (getD m q no-node) (getD m p no-node) ≡ t
+nodes-tested m q p k l x y t a b c d e = (λ i. eqb (sym a i) (sym c i) && eqb (sym b i) (sym d i)) ∙ sym e
 
 -- what is left of two subtrees behind the first n pairs
 abbrev pub rest : Forest → ℕ → ℕ → Forest

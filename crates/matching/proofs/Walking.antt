@@ -9,12 +9,12 @@ use lib.ListN.{take, drop, getD, length, length-drop}
 use lib.Seq.{take-length}
 use Rattle.std.specs.declared.option.Option.the-variants.{None}
 use Rattle.trees.specs.Forest.{Forest, size-at, label-at}
-use Rattle.trees.proofs.Windows.{win, Sound, Fits, fits-later, fits-inner}
+use Rattle.trees.proofs.Windows.{win, Sound, Fits, fits-later}
 use Rattle.patterns.specs.declared.row.Element.{Element}
 use Rattle.matching.specs.declared.found.Match.{Match}
 use Rattle.matching.specs.declared.rule.Rule.{Rule}
 use Rattle.matching.specs.declared.rule.Rule.the-variants.{Done, Stuck, BothGo, BindBeforeLexeme, BindBeforeInner, BindLast, Enter, Open}
-use Rattle.matching.specs.Rules.{Bindings, Outcome, tick, fails, settled, after, bind, variable, group, choose, choose-none, choose-inner, choose-leaf, by-rule, walks}
+use Rattle.matching.specs.Rules.{Bindings, Outcome, tick, settled, after, bind, variable, group, choose-none, choose-inner, choose-leaf, by-rule, walks}
 use Rattle.matching.specs.Levels.{Level, Bound-inside}
 use Rattle.matching.specs.Answers.{ended}
 use Rattle.matching.proofs.Winning.{choose-some, choose-nothing}

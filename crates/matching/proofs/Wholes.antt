@@ -3,13 +3,13 @@ use mathlib.Core.Path.{_≡_, refl, sym, ap, _∙_, subst}
 use mathlib.Core.List.{List, [], _∷_}
 use Prim.Native.Nat.{ℕ, _+_, _-_, _<_, _≤_}
 use native.Mathlib.Omega.{arith}
-use lib.ListN.{take, drop, getD, length, length-take, length-drop}
+use lib.ListN.{take, drop, length, length-drop}
 use lib.Seq.{getD-take, getD-drop, length-take-le}
 use Rattle.patterns.specs.declared.row.Element.{Element}
 use Rattle.patterns.specs.declared.row.Element.the-variants.{Lexeme, Variable, Group}
 use Rattle.patterns.specs.Elements.{extent, least-extent, number-of, element-at, ends, Well-formed}
 use Rattle.matching.specs.Rules.{variable, group}
-use Rattle.matching.specs.Levels.{Whole, Level}
+use Rattle.matching.specs.Levels.{Level}
 
 pub level-formed : (es : List Element) → Well-formed es → Level es
 level-formed es h i k = let s = h .each i k in record { numbered = s .numbered; sized = s .sized; inside = s .inside; nested = s .nested }

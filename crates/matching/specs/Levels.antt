@@ -1,12 +1,18 @@
--- What a level of a pattern is, and where bound places lie.
+-- What a level of a pattern is, where bound places lie, and what is known of the nodes ahead.
 use mathlib.Core.Path.{_≡_}
 use mathlib.Core.List.{List}
+use mathlib.Core.Bool.{cond}
 use Prim.Native.Nat.{ℕ, _≤_, _<_}
+use lib.Dec.{ltb}
 use lib.ListN.{getD, length}
+use Rattle.std.specs.declared.option.Option.{Option}
 use Rattle.std.specs.declared.option.Option.the-variants.{Some, None}
-use Rattle.trees.specs.Forest.{Forest}
+use Rattle.trees.specs.Forest.{Forest, label-at, size-at}
 use Rattle.patterns.specs.declared.row.Element.{Element}
 use Rattle.patterns.specs.Elements.{extent, least-extent, number-of, element-at, ends}
+use Rattle.matching.specs.declared.nodes.Node.{Node}
+use Rattle.matching.specs.declared.rule.Next.{Next}
+use Rattle.matching.specs.declared.rule.Next.the-variants.{Nothing, Leaf, Inner}
 use Rattle.matching.specs.Rules.{Bindings}
 
 -- The element at i is whole: one of 16 variables or no variable, a group with something in it or no group, and it ends inside the level and inside each group that holds it.
@@ -23,3 +29,13 @@ Level es = (i : ℕ) → i < length es → Whole es i
 -- Each bound place is one of the tree's.
 abbrev pub Bound-inside : Forest → Bindings → Type 0
 Bound-inside m b = (x q : ℕ) → getD b x None ≡ Some q → q < length m
+
+-- What is known of the node at a place: nothing yet, or its label and its size.
+abbrev pub Known : Forest → ℕ → Option Node → Type 0
+Known m p None = Unit {0}
+Known m p (Some a) = (a .label ≡ label-at m p) × (a .size ≡ size-at m p)
+
+-- What a node that was asked for is to those before it.
+abbrev pub seen : Option Node → Next
+seen None = Nothing
+seen (Some a) = cond (ltb 1 (a .size)) Inner (Leaf (a .label))

@@ -1,7 +1,7 @@
 -- How a pattern is matched at a place: one rule at a time, chosen by the pattern's next elements and the nodes ahead.
 use mathlib.Core.List.{List, [], _∷_}
 use mathlib.Core.Bool.{Bool, true, cond}
-use Prim.Native.Nat.{ℕ, zero, suc, _+_, _-_, _<_, _≤_}
+use Prim.Native.Nat.{ℕ, zero, suc, _+_, _-_}
 use lib.Dec.{eqb, ltb}
 use lib.ListN.{take, drop, getD, set, length, replicate}
 use Rattle.std.specs.declared.option.Option.{Option}

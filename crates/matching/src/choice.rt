@@ -5,6 +5,8 @@ ghost use mathlib.Core.Bool.{cond};
 ghost use lib.Dec.{ltb};
 ghost use lib.ListN.{length};
 ghost use Rattle.trees.proofs.Windows.{win};
+ghost use Rattle.std.specs.declared.option.Option.the-variants.{None};
+ghost use Rattle.matching.specs.Levels.{Known, seen};
 ghost use Rattle.matching.specs.Rules.{fits, next, choose-last, choose-inner, choose-leaf};
 use crate::nodes::Node;
 use crate::nodes::node_at;
@@ -23,19 +25,32 @@ fn suits(constructor: Option<u16>, label: u16) -> bool
     }
 }
 
-// What stands at a place before the end.
-fn next_at<T: Tree>(tree: &T, place: usize, end: usize) -> Next
+// The node at a place, if that is before the end.
+fn node_before<T: Tree>(tree: &T, place: usize, end: usize) -> Option<Node>
     requires { ⌜ end ≤ length (T·Meant .meaning (now tree)) ⌝ }
-    ensures { λ r. ⌜ r ≡ next (win (T·Meant .meaning (now (tree .entry))) place end) ⌝ }
+    ensures value { λ r. ⌜ seen r ≡ next (win (T·Meant .meaning (now (tree .entry))) place end) ⌝ }
+    ensures known { λ r. ⌜ Known (T·Meant .meaning (now (tree .entry))) place r ⌝ }
 {
     if place >= end {
-        return Next::Nothing;
+        return None;
     }
     let node = node_at(tree, place);
-    if 1 < node.size {
-        Next::Inner
-    } else {
-        Next::Leaf(node.label)
+    Some(node)
+}
+
+// What a node is to those before it.
+fn next_of(node: Option<Node>) -> Next
+    ensures { λ r. ⌜ r ≡ seen node ⌝ }
+{
+    match node {
+        None => Next::Nothing,
+        Some(node) => {
+            if 1 < node.size {
+                Next::Inner
+            } else {
+                Next::Leaf(node.label)
+            }
+        }
     }
 }
 
@@ -81,6 +96,32 @@ fn choose_behind(elements: &[Element], next: Next) -> Rule
     }
 }
 
+/// A rule, and the node behind the one that it was chosen at, if that was asked for.
+#[derive(Clone, Copy)]
+pub struct Choice {
+    pub rule: Rule,
+    pub next: Option<Node>,
+}
+
+// A rule that was chosen without a look behind the node.
+fn at_once(rule: Rule) -> Choice
+    ensures rule { λ r. ⌜ r .rule ≡ rule ⌝ }
+    ensures next { λ r. ⌜ r .next ≡ None ⌝ }
+{
+    Choice { rule, next: None }
+}
+
+// The rule at an inner node that suits a variable, by the elements behind the variable and the node behind its tree.
+fn look_behind<T: Tree>(tree: &T, elements: &[Element], behind: usize, end: usize) -> Choice
+    requires { ⌜ end ≤ length (T·Meant .meaning (now tree)) ⌝ }
+    ensures rule { λ r. ⌜ r .rule ≡ choose-last (now (elements .entry)) (next (win (T·Meant .meaning (now (tree .entry))) behind end)) ⌝ }
+    ensures known { λ r. ⌜ Known (T·Meant .meaning (now (tree .entry))) behind (r .next) ⌝ }
+{
+    let node = node_before(tree, behind, end);
+    let rule = choose_behind(elements, next_of(node));
+    Choice { rule, next: node }
+}
+
 // The rule at an inner node with this label, where what follows its tree begins.
 fn choose_at_inner<T: Tree>(
     tree: &T,
@@ -88,19 +129,20 @@ fn choose_at_inner<T: Tree>(
     label: u16,
     behind: usize,
     end: usize,
-) -> Rule
+) -> Choice
     requires { ⌜ end ≤ length (T·Meant .meaning (now tree)) ⌝ }
-    ensures { λ r. ⌜ r ≡ choose-inner (now (elements .entry)) label (win (T·Meant .meaning (now (tree .entry))) behind end) ⌝ }
+    ensures rule { λ r. ⌜ r .rule ≡ choose-inner (now (elements .entry)) label (win (T·Meant .meaning (now (tree .entry))) behind end) ⌝ }
+    ensures known { λ r. ⌜ Known (T·Meant .meaning (now (tree .entry))) behind (r .next) ⌝ }
 {
     match elements {
-        [] => Rule::Stuck,
-        [Element::Lexeme(_), ..] => Rule::Open,
-        [Element::Group { .. }, ..] => Rule::Enter,
+        [] => at_once(Rule::Stuck),
+        [Element::Lexeme(_), ..] => at_once(Rule::Open),
+        [Element::Group { .. }, ..] => at_once(Rule::Enter),
         [Element::Variable { constructor, .. }, rest @ ..] => {
             if suits(*constructor, label) {
-                choose_behind(rest, next_at(tree, behind, end))
+                look_behind(tree, rest, behind, end)
             } else {
-                Rule::Open
+                at_once(Rule::Open)
             }
         }
     }
@@ -113,13 +155,14 @@ pub(crate) fn choose_rule<T: Tree>(
     node: Node,
     place: usize,
     end: usize,
-) -> Rule
+) -> Choice
     requires { ⌜ end ≤ length (T·Meant .meaning (now tree)) ⌝ ∗ ⌜ place + node .size ≤ end ⌝ }
-    ensures { λ r. ⌜ r ≡ cond (ltb 1 (node .size)) (choose-inner (now (elements .entry)) (node .label) (win (T·Meant .meaning (now (tree .entry))) (place + node .size) end)) (choose-leaf (now (elements .entry)) (node .label)) ⌝ }
+    ensures rule { λ r. ⌜ r .rule ≡ cond (ltb 1 (node .size)) (choose-inner (now (elements .entry)) (node .label) (win (T·Meant .meaning (now (tree .entry))) (place + node .size) end)) (choose-leaf (now (elements .entry)) (node .label)) ⌝ }
+    ensures known { λ r. ⌜ Known (T·Meant .meaning (now (tree .entry))) (place + node .size) (r .next) ⌝ }
 {
     if 1 < node.size {
         choose_at_inner(tree, elements, node.label, place + node.size, end)
     } else {
-        choose_at_leaf(elements, node.label)
+        at_once(choose_at_leaf(elements, node.label))
     }
 }

@@ -1,15 +1,15 @@
 // How the elements of a level are matched with the nodes between two places.
 ghost use mathlib.Core.Path.{_≡_};
 ghost use Prim.Native.Nat.{_+_, _-_, _*_, _≤_, _<_};
-ghost use lib.ListN.{length};
 ghost use Rattle.trees.proofs.Windows.{Fits};
 ghost use Rattle.matching.specs.Rules.{variable, group, tick, walks};
-ghost use Rattle.matching.specs.Levels.{Level, Bound-inside};
+ghost use Rattle.matching.specs.Levels.{Level, Known, Bound-inside};
 ghost use Rattle.matching.specs.Answers.{ended};
 use crate::binding::bind_variable;
 use crate::choice::choose_rule;
 use crate::found::Match;
-use crate::nodes::node_at;
+use crate::nodes::Node;
+use crate::nodes::known_or_asked;
 use crate::rule::Rule;
 use patterns::Element;
 use trees::Tree;
@@ -35,24 +35,28 @@ fn group_of(elements: &[Element]) -> usize
     }
 }
 
-// Matches elements with the nodes between two places, rule after rule, and says whether that went well.
+// Matches elements with the nodes between two places, rule after rule, and says whether that went well; the first node may be known.
 pub(crate) fn match_level<T: Tree>(
     tree: &T,
     elements: &[Element],
+    first: Option<Node>,
     place: usize,
     end: usize,
     found: &mut Match,
 ) -> bool
-    requires { ⌜ Level (now elements) ⌝ ∗ ⌜ Fits (T·Meant .meaning (now tree)) place end ⌝ ∗ ⌜ Bound-inside (T·Meant .meaning (now tree)) (now found .places) ⌝ ∗ ⌜ now found .steps + 2 * (end - place) ≤ 8192 ⌝ }
+    requires { ⌜ Level (now elements) ⌝ ∗ ⌜ Known (T·Meant .meaning (now tree)) place first ⌝ ∗ ⌜ Fits (T·Meant .meaning (now tree)) place end ⌝ ∗ ⌜ Bound-inside (T·Meant .meaning (now tree)) (now found .places) ⌝ ∗ ⌜ now found .steps + 2 * (end - place) ≤ 8192 ⌝ }
     ensures answer { λ r. ⌜ ended r (now (found .exit)) ≡ tick (now (found .entry) .steps) (walks (T·Meant .meaning (now (tree .entry))) (now (elements .entry)) place end (now (found .entry) .places)) ⌝ }
     ensures inside { λ r. ⌜ Bound-inside (T·Meant .meaning (now (tree .entry))) (now (found .exit) .places) ⌝ }
     ensures brief { λ r. ⌜ now (found .exit) .steps ≤ now (found .entry) .steps + 2 * (end - place) ⌝ }
 {
     let mut rest = elements;
     let mut at = place;
+    let mut ahead = first;
     while at < end {
-        let node = node_at(tree, at);
-        match choose_rule(tree, rest, node, at, end) {
+        let node = known_or_asked(tree, ahead, at);
+        let choice = choose_rule(tree, rest, node, at, end);
+        ahead = None;
+        match choice.rule {
             Rule::Done => return true,
             Rule::Stuck => return false,
             Rule::BothGo => {
@@ -77,11 +81,12 @@ pub(crate) fn match_level<T: Tree>(
                 }
                 rest = &rest[1..]; // the variable goes
                 at += node.size;
+                ahead = choice.next;
             }
             Rule::Enter => {
                 found.steps += 1;
                 let size = group_of(rest);
-                let inner = match_level(tree, &rest[1..size], at + 1, at + node.size, found);
+                let inner = match_level(tree, &rest[1..size], None, at + 1, at + node.size, found);
                 if !inner {
                     return false;
                 }

@@ -14,6 +14,7 @@ mod rule;
 
 pub use found::Match;
 use level::match_level;
+use nodes::Node;
 use patterns::Pattern;
 use refusals::Cause;
 use refusals::Layer;
@@ -25,12 +26,21 @@ pub fn match_at<T: Tree>(tree: &T, pattern: &Pattern, place: usize) -> Result<Ma
     ensures answer { λ r. ⌜ r ≡ match-answer (T·Meant .meaning (now (tree .entry))) (elements-of (now (pattern .entry) .row)) place ⌝ }
     ensures laws { λ r. ⌜ Match-laws (T·Meant .meaning (now (tree .entry))) (elements-of (now (pattern .entry) .row)) place r ⌝ }
 {
+    let label = tree.label(place)?;
     let size = tree.size(place)?;
+    let node = Node { label, size };
     let mut found = Match {
         places: [None; 16],
         steps: 0,
     };
-    if match_level(tree, pattern.elements(), place, place + size, &mut found) {
+    if match_level(
+        tree,
+        pattern.elements(),
+        Some(node),
+        place,
+        place + size,
+        &mut found,
+    ) {
         Ok(found)
     } else {
         Err(no_match(found.steps))

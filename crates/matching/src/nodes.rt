@@ -3,6 +3,7 @@ ghost use mathlib.Core.Path.{_≡_};
 ghost use Prim.Native.Nat.{_<_};
 ghost use lib.ListN.{length};
 ghost use Rattle.trees.specs.Forest.{label-at, size-at};
+ghost use Rattle.matching.specs.Levels.{Known};
 use trees::Tree;
 
 /// The label and the size at a place.
@@ -10,6 +11,18 @@ use trees::Tree;
 pub struct Node {
     pub label: u16,
     pub size: usize,
+}
+
+// The node at a place of the tree, asked for unless it is known.
+pub(crate) fn known_or_asked<T: Tree>(tree: &T, known: Option<Node>, place: usize) -> Node
+    requires { ⌜ place < length (T·Meant .meaning (now tree)) ⌝ ∗ ⌜ Known (T·Meant .meaning (now tree)) place known ⌝ }
+    ensures label { λ r. ⌜ r .label ≡ label-at (T·Meant .meaning (now (tree .entry))) place ⌝ }
+    ensures size { λ r. ⌜ r .size ≡ size-at (T·Meant .meaning (now (tree .entry))) place ⌝ }
+{
+    match known {
+        Some(node) => node,
+        None => node_at(tree, place),
+    }
 }
 
 // The node at a place of the tree.

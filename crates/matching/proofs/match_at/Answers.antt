@@ -17,7 +17,7 @@ use Rattle.matching.specs.Rules.{tick, walks}
 use Rattle.matching.specs.Answers.{ended, match-answer}
 use Rattle.matching.proofs.Winning.{none-some, blank}
 use Rattle.matching.proofs.Wholes.{level-formed}
-use Rattle.matching.proofs.Answering.{size-there, size-refused, match-ended, laws-hold}
+use Rattle.matching.proofs.Answering.{size-there, label-there, size-refused, label-refused, match-ended, laws-hold}
 use Rattle.matching.proofs.match_at.Needs as need
 
 pub add-place : need.add-place
@@ -28,7 +28,7 @@ add-place g c =
 pub match-level-requires : need.match-level-requires
 match-level-requires g c κs =
     let (h, k) = size-there (g .T·Meant .meaning (c .args .tree .now)) (c .args .place) (c .in-Continue-size .size) (c .in-Continue-size .ensures tt) in
-    (level-formed _ (c .elements .ensures .sound), (subst (λ (n : ℕ). Fits (g .T·Meant .meaning (c .args .tree .now)) (c .args .place) (c .args .place + n)) (sym k) (fits-at (sound _ (g .T·Meant·met .lawful (c .args .tree .now))) (c .args .place) h), (λ x q e. none-some q (sym (blank 16 x) ∙ e), omega (arith, k, fits-whole (g .T·Meant .meaning (c .args .tree .now)) (sound _ (g .T·Meant·met .lawful (c .args .tree .now))) (c .args .place) h, (g .T·Meant·met .lawful (c .args .tree .now)) .few-nodes))))
+    (level-formed _ (c .elements .ensures .sound), ((label-there (g .T·Meant .meaning (c .args .tree .now)) (c .args .place) (c .in-Continue-label .label) (c .in-Continue-label .ensures tt), k), (subst (λ (n : ℕ). Fits (g .T·Meant .meaning (c .args .tree .now)) (c .args .place) (c .args .place + n)) (sym k) (fits-at (sound _ (g .T·Meant·met .lawful (c .args .tree .now))) (c .args .place) h), (λ x q e. none-some q (sym (blank 16 x) ∙ e), omega (arith, k, fits-whole (g .T·Meant .meaning (c .args .tree .now)) (sound _ (g .T·Meant·met .lawful (c .args .tree .now))) (c .args .place) h, (g .T·Meant·met .lawful (c .args .tree .now)) .few-nodes)))))
 
 pub returns-then-match-level : need.returns-then-match-level
 returns-then-match-level g c =
@@ -44,8 +44,14 @@ returns-else-match-level g c =
     let e : Err (c .no-match .result) ≡ match-answer (g .T·Meant .meaning (c .args .tree .now)) (elements-of (c .args .pattern .now .row)) (c .args .place) = ap (λ (x : Refusal). Err x) (c .no-match .ensures) ∙ sym (match-ended (g .T·Meant .meaning (c .args .tree .now)) (g .T·Meant·met .lawful (c .args .tree .now)) (elements-of (c .args .pattern .now .row)) (c .args .place) (c .in-Continue-size .size) h k false (c .match-level .last .found) i) in
     record { answer = e; laws = laws-hold (g .T·Meant .meaning (c .args .tree .now)) (g .T·Meant·met .lawful (c .args .tree .now)) (elements-of (c .args .pattern .now .row)) (kept (c .args .pattern .now) .formed) (c .args .place) _ e }
 
+pub returns-in-Break-label : need.returns-in-Break-label
+returns-in-Break-label g c =
+    let p = err-from-errBy (c .from-residual .result) (c .from-residual .ensures .1) in
+    let e : c .from-residual .result ≡ match-answer (g .T·Meant .meaning (c .args .tree .now)) (elements-of (c .args .pattern .now .row)) (c .args .place) = p .1 ∙ ap (λ (x : Refusal). Err x) (p .2) ∙ label-refused (g .T·Meant .meaning (c .args .tree .now)) (elements-of (c .args .pattern .now .row)) (c .args .place) (c .in-Break-label .field-0 .0) (c .in-Break-label .ensures tt) in
+    record { answer = e; laws = laws-hold (g .T·Meant .meaning (c .args .tree .now)) (g .T·Meant·met .lawful (c .args .tree .now)) (elements-of (c .args .pattern .now .row)) (kept (c .args .pattern .now) .formed) (c .args .place) _ e }
+
 pub returns-in-Break-size : need.returns-in-Break-size
 returns-in-Break-size g c =
-    let p = err-from-errBy (c .from-residual .result) (c .from-residual .ensures .1) in
-    let e : c .from-residual .result ≡ match-answer (g .T·Meant .meaning (c .args .tree .now)) (elements-of (c .args .pattern .now .row)) (c .args .place) = p .1 ∙ ap (λ (x : Refusal). Err x) (p .2) ∙ size-refused (g .T·Meant .meaning (c .args .tree .now)) (elements-of (c .args .pattern .now .row)) (c .args .place) (c .in-Break-size .field-0 .0) (c .in-Break-size .ensures tt) in
+    let p = err-from-errBy (c .from-residual-in-Break-size .result) (c .from-residual-in-Break-size .ensures .1) in
+    let e : c .from-residual-in-Break-size .result ≡ match-answer (g .T·Meant .meaning (c .args .tree .now)) (elements-of (c .args .pattern .now .row)) (c .args .place) = p .1 ∙ ap (λ (x : Refusal). Err x) (p .2) ∙ size-refused (g .T·Meant .meaning (c .args .tree .now)) (elements-of (c .args .pattern .now .row)) (c .args .place) (c .in-Break-size .field-0 .0) (c .in-Break-size .ensures tt) in
     record { answer = e; laws = laws-hold (g .T·Meant .meaning (c .args .tree .now)) (g .T·Meant·met .lawful (c .args .tree .now)) (elements-of (c .args .pattern .now .row)) (kept (c .args .pattern .now) .formed) (c .args .place) _ e }

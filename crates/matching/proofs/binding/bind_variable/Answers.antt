@@ -1,5 +1,4 @@
 -- A variable without a place gets this one; else the two subtrees are compared.
-use mathlib.Core.Path.{_≡_, sym, ap, _∙_}
 use native.Mathlib.Omega.{arith}
 use Rattle.matching.proofs.Bound.{fresh-ended, again-ended, inside-set, few-pairs}
 use Rattle.matching.proofs.binding.bind_variable.Needs as need

@@ -1,13 +1,13 @@
 -- Each pair lies inside the two subtrees, and tells whether they go on alike.
 use mathlib.Core.Path.{_≡_, refl, sym, ap, _∙_, subst}
-use mathlib.Core.Bool.{true, false, _&&_}
+use mathlib.Core.Bool.{_&&_}
 use Prim.Native.Nat.{ℕ, _+_, _<_, _≤_}
 use native.Mathlib.Omega.{arith}
 use lib.Dec.{eqb}
 use lib.ListN.{getD, length}
 use Rattle.trees.specs.Forest.{Forest, Law, no-node, size-at, same-node}
 use Rattle.trees.proofs.Windows.{Sound, sound, fits-whole}
-use Rattle.matching.proofs.Comparing.{So-far, none-yet, there, one-more, differ, all-alike}
+use Rattle.matching.proofs.Comparing.{So-far, nodes-tested, none-yet, there, one-more, differ, all-alike}
 use Rattle.matching.proofs.comparison.compare.Needs as need
 
 -- a pair lies in the tree, whose places are few
@@ -39,7 +39,7 @@ returns-then-not-same-nodes g c =
     let i = c .loop-i .i in
     let s : Sound m = sound m (g .T·Meant·met .lawful (c .args .tree .now)) in
     let l : i < size-at m p = omega (arith, c .pre .1 .1, c .loop-i-test .taken) in
-    let e : same-node (getD m (q + i) no-node) (getD m (p + i) no-node) ≡ c .same-nodes .result = sym (c .same-nodes .ensures ∙ (λ j. eqb (c .node-at-a .ensures .label j) (c .node-at-b .ensures .label j) && eqb (c .node-at-a .ensures .size j) (c .node-at-b .ensures .size j))) in
+    let e : same-node (getD m (q + i) no-node) (getD m (p + i) no-node) ≡ c .same-nodes .result = nodes-tested m (q + i) (p + i) _ _ _ _ _ (c .node-at-a .ensures .label) (c .node-at-a .ensures .size) (c .node-at-b .ensures .label) (c .node-at-b .ensures .size) (c .same-nodes .ensures) in
     let (f, n) = differ m s q p (c .pre .0) (c .pre .1 .0) i l (c .loop-i .inv .1) (e ∙ c .if-not-same-nodes .taken) in
     record { same = sym f; pairs = ap (λ (x : ℕ). x + 1) (c .loop-i .inv .0) ∙ sym n }
 
@@ -51,7 +51,7 @@ loop-i-again g c =
     let i = c .loop-i .i in
     let s : Sound m = sound m (g .T·Meant·met .lawful (c .args .tree .now)) in
     let l : i < size-at m p = omega (arith, c .pre .1 .1, c .loop-i-test .taken) in
-    let e : same-node (getD m (q + i) no-node) (getD m (p + i) no-node) ≡ c .same-nodes .result = sym (c .same-nodes .ensures ∙ (λ j. eqb (c .node-at-a .ensures .label j) (c .node-at-b .ensures .label j) && eqb (c .node-at-a .ensures .size j) (c .node-at-b .ensures .size j))) in
+    let e : same-node (getD m (q + i) no-node) (getD m (p + i) no-node) ≡ c .same-nodes .result = nodes-tested m (q + i) (p + i) _ _ _ _ _ (c .node-at-a .ensures .label) (c .node-at-a .ensures .size) (c .node-at-b .ensures .label) (c .node-at-b .ensures .size) (c .same-nodes .ensures) in
     (ap (λ (x : ℕ). x + 1) (c .loop-i .inv .0), one-more m s q p (c .pre .0) (c .pre .1 .0) i l (c .loop-i .inv .1) (e ∙ c .if-not-same-nodes .left))
 
 pub loop-i-holds : need.loop-i-holds
