@@ -15,14 +15,14 @@ use std::io;
 use std::io::Write;
 use trees::Tree;
 use trees::image::Image;
-use trees::image::check::check_image;
-use trees::image::tree::ImageMeant;
-use trees::image::tree::ImageTree;
+use trees::image::ImageMeant;
+use trees::image::ImageTree;
+use trees::image::check_image;
 use trees::outline::Outline;
+use trees::outline::OutlineMeant;
+use trees::outline::OutlineTree;
 use trees::outline::Record;
-use trees::outline::check::check_outline;
-use trees::outline::tree::OutlineMeant;
-use trees::outline::tree::OutlineTree;
+use trees::outline::check_outline;
 use trees::write::write_image;
 
 // How many bytes the image of the largest tree has.
