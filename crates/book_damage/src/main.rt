@@ -16,7 +16,10 @@ enum Answer {
 fn check(bytes: &[u8]) -> Answer {
     match labels::check(bytes) {
         Ok(count) => Answer::Records(count),
-        Err(f) => Answer::Refused(f.cause.number(), f.layer.number(), f.byte, f.steps),
+        Err(refusal) => {
+            let (cause, layer, byte, steps) = refusal.numbers();
+            Answer::Refused(cause, layer, byte, steps)
+        }
     }
 }
 

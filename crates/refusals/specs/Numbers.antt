@@ -41,13 +41,6 @@ layer-number Session = 6
 abbrev pub refused : Cause → Layer → ℕ → ℕ → Refusal
 refused c l b s = record { cause = c; layer = l; byte = b; steps = s }
 
--- The four numbers by which a refusal is told.
-pub record Four : Type 0 where
-  pub cause : ℕ
-  pub layer : ℕ
-  pub byte : ℕ
-  pub steps : ℕ
-
--- The four numbers of a refusal.
-abbrev pub numbers : Refusal → Four
-numbers r = record { cause = cause-number (r .cause); layer = layer-number (r .layer); byte = r .byte; steps = r .steps }
+-- The four numbers of a refusal: cause, layer, byte and steps.
+abbrev pub numbers : Refusal → ℕ × ℕ × ℕ × ℕ
+numbers r = (cause-number (r .cause), layer-number (r .layer), r .byte, r .steps)

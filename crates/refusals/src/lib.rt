@@ -1,6 +1,6 @@
 // What a call answers when it refuses: the cause, the layer that found it, the byte and the steps.
 ghost use mathlib.Core.Path.{_≡_};
-ghost use Rattle.refusals.specs.Numbers.{cause-number, layer-number, refused};
+ghost use Rattle.refusals.specs.Numbers.{cause-number, layer-number, numbers, refused};
 
 /// Why a call was refused. The number of each case is part of the format of a refusal.
 #[derive(Clone, Copy, PartialEq, Eq, Debug)]
@@ -75,6 +75,18 @@ impl Refusal {
             byte,
             steps: 0,
         }
+    }
+
+    /// The four numbers by which the refusal is known: cause, layer, byte and steps.
+    pub fn numbers(self) -> (u8, u8, usize, u32)
+        ensures { λ r. ⌜ r ≡ numbers self ⌝ }
+    {
+        (
+            self.cause.number(),
+            self.layer.number(),
+            self.byte,
+            self.steps,
+        )
     }
 }
 

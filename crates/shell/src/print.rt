@@ -8,11 +8,8 @@ use trees::Tree;
 
 /// Writes a refusal as a line.
 pub(crate) fn print_refusal<W: Write>(out: &mut W, refusal: Refusal) -> io::Result<()> {
-    let number = refusal.cause.number();
+    let (number, layer, byte, steps) = refusal.numbers();
     let words = words(refusal.cause);
-    let layer = refusal.layer.number();
-    let byte = refusal.byte;
-    let steps = refusal.steps;
     writeln!(
         out,
         "refused {number} {words} (layer {layer}, byte {byte}, steps {steps})"

@@ -24,15 +24,13 @@ use exchange::root_of;
 const IMAGE: [u8; 60] =
     *b"\x3c\x00\x00\x00\x01\x00\x0c\x00\x00\x00\x02\x00\x06\x00\x00\x00\x04\x00\x06\x00\x00\x00\x05\x00\x24\x00\x00\x00\x03\x00\x0c\x00\x00\x00\x02\x00\x06\x00\x00\x00\x06\x00\x06\x00\x00\x00\x07\x00\x0c\x00\x00\x00\x02\x00\x06\x00\x00\x00\x08\x00";
 
-/// The values that each byte is changed to.
-const VALUES: [u8; 8] = [0, 1, 5, 6, 12, 127, 128, 255];
-
 /// Prints a refusal.
 fn refuse(rt: &impl Print, refusal: Refusal) -> io::Result<()> {
-    let number = refusal.cause.number();
-    let layer = refusal.layer.number();
-    let byte = refusal.byte;
-    print!(rt, "refused {number} (layer {layer}, byte {byte})")
+    let (number, layer, byte, steps) = refusal.numbers();
+    print!(
+        rt,
+        "refused {number}, layer {layer}, byte {byte}, steps {steps}"
+    )
 }
 
 /// Prints what the check answers, and the tree that is made.
@@ -57,16 +55,27 @@ fn cuts(rt: &impl Print) -> io::Result<()> {
     Ok(())
 }
 
-/// The image with one byte changed.
+/// What the check answers, as numbers.
+fn answer(bytes: &[u8]) -> (usize, u8, usize) {
+    match check_image(bytes) {
+        Ok(places) => (places, 0, 0),
+        Err(refusal) => (0, refusal.cause.number(), refusal.byte),
+    }
+}
+
+/// The image with one byte changed to each value; those that are answered alike as the one before are passed over.
 fn changes(rt: &impl Print) -> io::Result<()> {
     for at in 0..60 {
-        for value in VALUES {
+        let mut last = (0, 0, 0);
+        for value in 0..=255u8 {
             let mut bytes = IMAGE;
-            if bytes[at] != value {
-                bytes[at] = value;
-                print!(rt, "byte {at} to {value}: ")?;
+            bytes[at] = value;
+            let now = answer(&bytes);
+            if now != last {
+                print!(rt, "byte {at} from {value}: ")?;
                 outcome(rt, &mut bytes)?;
             }
+            last = now;
         }
     }
     Ok(())
