@@ -35,6 +35,10 @@ pub record Reached (m : Forest) (n : ℕ) (o : Outcome) (most : ℕ) (es : List 
 abbrev pub Chosen : Forest → List Element → ℕ → ℕ → ℕ → ℕ → Rule → Type 0
 Chosen m es p e l s r = r ≡ cond (ltb 1 s) (choose-inner es l (win m (p + s) e)) (choose-leaf es l)
 
+-- the rule of a case of the code
+pub case-chosen : (m : Forest) (es : List Element) (p e l s : ℕ) (q r : Rule) → q ≡ r → Chosen m es p e l s q → Chosen m es p e l s r
+case-chosen m es p e l s q r h c = sym h ∙ c
+
 -- one more step
 abbrev pub stepped : Match → Match
 stepped a = record { places = a .places; steps = a .steps + 1 }
