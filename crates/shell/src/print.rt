@@ -5,6 +5,7 @@ use refusals::Refusal;
 use std::io;
 use std::io::Write;
 use trees::Tree;
+use trees::write::write_image;
 
 /// Writes a refusal as a line.
 pub(crate) fn print_refusal<W: Write>(out: &mut W, refusal: Refusal) -> io::Result<()> {
@@ -28,8 +29,24 @@ pub(crate) fn print_count<W: Write>(
     }
 }
 
-/// Writes the first bytes of some as pairs of hexadecimal digits.
-pub(crate) fn print_hex<W: Write>(out: &mut W, bytes: &[u8], count: usize) -> io::Result<()> {
+/// Writes the image of a tree, by way of the bytes that are lent for it.
+pub(crate) fn print_image<T: Tree, W: Write>(
+    out: &mut W,
+    tree: &T,
+    image: &mut [u8],
+) -> io::Result<()> {
+    match write_image(tree, image) {
+        Ok(count) => {
+            write!(out, "ok {count} bytes ")?;
+            print_hex(out, image, count)?;
+            out.write_all(b"\n")
+        }
+        Err(refusal) => print_refusal(out, refusal),
+    }
+}
+
+// Writes the first bytes of some as pairs of hexadecimal digits.
+fn print_hex<W: Write>(out: &mut W, bytes: &[u8], count: usize) -> io::Result<()> {
     for byte in bytes.iter().take(count) {
         write!(out, "{byte:02X}")?;
     }
