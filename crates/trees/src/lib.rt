@@ -7,6 +7,10 @@ ghost use Rattle.trees.specs.Laws.{Same-is-equal, Relabel-keeps-the-law, Relab
 ghost use Rattle.trees.specs.Questions.{label-answer, size-answer, put-answer};
 use refusals::Refusal;
 
+pub mod image;
+pub mod outline;
+mod record;
+
 /// What a tree means: its nodes in preorder, which keep the law of every tree.
 /// A trait of its own, with no method, so that each make proves the law by itself.
 pub trait Meant {
