@@ -1,0 +1,3 @@
+-- What the texts of trees and patterns are.
+pub mod Bytes
+pub mod Tokens
