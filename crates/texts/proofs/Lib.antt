@@ -1,0 +1,6 @@
+-- The proofs.
+pub mod Runs
+pub mod Lexing
+pub mod TreeSteps
+pub mod Winning
+pub mod TreeLoops
