@@ -11,6 +11,8 @@ pub(crate) enum Command<'a> {
     Name(u32),
     Image(&'a [u8]),
     Outline(&'a [u8]),
+    Tree(&'a [u8]),
+    TreeHex(&'a [u8]),
     CheckImage(&'a [u8]),
     CheckOutline(&'a [u8]),
     Show,
@@ -44,6 +46,8 @@ fn tree_command<'a>(word: &[u8], rest: &'a [u8]) -> Option<Command<'a>> {
     match word {
         b"image" => Some(Command::Image(rest)),
         b"outline" => Some(Command::Outline(rest)),
+        b"tree" => Some(Command::Tree(rest)),
+        b"tree-hex" => Some(Command::TreeHex(rest)),
         b"check-image" => Some(Command::CheckImage(rest)),
         b"check-outline" => Some(Command::CheckOutline(rest)),
         b"show" => alone(rest, Command::Show),

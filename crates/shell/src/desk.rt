@@ -62,6 +62,8 @@ impl Desk {
             Command::Name(number) => self.print_name(number, out)?,
             Command::Image(hex) => return self.set_image(hex, out),
             Command::Outline(text) => return self.set_outline(text, out),
+            Command::Tree(text) => self.set_tree(text, out)?,
+            Command::TreeHex(hex) => return self.set_tree_hex(hex, out),
             Command::CheckImage(hex) => return self.check_image(hex, out),
             Command::CheckOutline(text) => return self.check_outline(text, out),
             Command::Show => self.show(out)?,

@@ -51,23 +51,23 @@ scans es d e rs [] qs h = cast (same-ok h) none
 scans es d e rs (t ∷ []) qs h = let f = no-fault (end-fault d (length rs)) (Ok rs) (λ c. tree-fault c (t .start)) h in cast (same-ok (f .1)) (stop (f .0))
 scans es d e rs (t ∷ u ∷ us) qs h =
     let go : (x : Shape) → t .what ≡ x → tree-scan es d e rs (record { what = x; start = t .start; to = t .to } ∷ u ∷ us) ≡ Ok qs → Scans es d e rs (t ∷ u ∷ us) qs =
-      λ x q. elim x as (λ y. t .what ≡ y → tree-scan es d e rs (record { what = y; start = t .start; to = t .to } ∷ u ∷ us) ≡ Ok qs → Scans es d e rs (t ∷ u ∷ us) qs) [
-        | word w ↦ λ p g.
-            let o = then-ok (is-open (u .what)) (after (node-answer es d (length rs) w (t .start)) (λ r. tree-scan es (d + 1) true (rs ++ (r ∷ [])) us)) (tree-fault BadText (t .start)) g in
-            let a = after-ok (node-answer es d (length rs) w (t .start)) (λ r. tree-scan es (d + 1) true (rs ++ (r ∷ [])) us) (o .1) in
-            node w (a .0) p (o .0) (a .1) (scans es (d + 1) true (rs ++ (a .0 ∷ [])) us qs (a .2))
-        | quoted w ↦ λ p g.
-            let a = after-ok (node-answer es d (length rs) w (t .start)) (λ r. tree-scan es d false (rs ++ (r ∷ [])) (u ∷ us)) g in
-            leaf w (a .0) p (a .1) (scans es d false (rs ++ (a .0 ∷ [])) (u ∷ us) qs (a .2))
-        | variable k w ↦ λ p g. absurd (ok-is-not-err g)
-        | sign b ↦ λ p g.
-            let f = no-fault (sign-fault b d e) (tree-scan es (d - 1) false rs (u ∷ us)) (λ c. tree-fault c (t .start)) g in
-            close b p (f .0) (scans es (d - 1) false rs (u ∷ us) qs (f .1))
-        | open-group ↦ λ p g. absurd (ok-is-not-err g)
-        | close-group ↦ λ p g. absurd (ok-is-not-err g)
-        | fault ↦ λ p g. absurd (ok-is-not-err g)
-        | end ↦ λ p g. absurd (ok-is-not-err g)
-      ] q in
+    λ x q. elim x as (λ y. t .what ≡ y → tree-scan es d e rs (record { what = y; start = t .start; to = t .to } ∷ u ∷ us) ≡ Ok qs → Scans es d e rs (t ∷ u ∷ us) qs) [
+      | word w ↦ λ p g.
+          let o = then-ok (is-open (u .what)) (after (node-answer es d (length rs) w (t .start)) (λ r. tree-scan es (d + 1) true (rs ++ (r ∷ [])) us)) (tree-fault BadText (t .start)) g in
+          let a = after-ok (node-answer es d (length rs) w (t .start)) (λ r. tree-scan es (d + 1) true (rs ++ (r ∷ [])) us) (o .1) in
+          node w (a .0) p (o .0) (a .1) (scans es (d + 1) true (rs ++ (a .0 ∷ [])) us qs (a .2))
+      | quoted w ↦ λ p g.
+          let a = after-ok (node-answer es d (length rs) w (t .start)) (λ r. tree-scan es d false (rs ++ (r ∷ [])) (u ∷ us)) g in
+          leaf w (a .0) p (a .1) (scans es d false (rs ++ (a .0 ∷ [])) (u ∷ us) qs (a .2))
+      | variable k w ↦ λ p g. absurd (ok-is-not-err g)
+      | sign b ↦ λ p g.
+          let f = no-fault (sign-fault b d e) (tree-scan es (d - 1) false rs (u ∷ us)) (λ c. tree-fault c (t .start)) g in
+          close b p (f .0) (scans es (d - 1) false rs (u ∷ us) qs (f .1))
+      | open-group ↦ λ p g. absurd (ok-is-not-err g)
+      | close-group ↦ λ p g. absurd (ok-is-not-err g)
+      | fault ↦ λ p g. absurd (ok-is-not-err g)
+      | end ↦ λ p g. absurd (ok-is-not-err g)
+    ] q in
     go (t .what) refl h
 
 -- what stood stays in front

@@ -26,8 +26,8 @@ abbrev pub node-answer : List Entry → ℕ → ℕ → List ℕ → ℕ → Res
 node-answer es d n w i = elim (label-of es w) [
   | None ↦ Err (tree-fault UnknownName i)
   | Some l ↦
-    cond (eqb d 0 && ltb 0 n) (Err (tree-fault OneTree i))
-    (cond (ltb 4095 n || ltb 63 d) (Err (tree-fault TooMany i)) (Ok (record { depth = d; label = l })))
+      cond (eqb d 0 && ltb 0 n) (Err (tree-fault OneTree i))
+      (cond (ltb 4095 n || ltb 63 d) (Err (tree-fault TooMany i)) (Ok (record { depth = d; label = l })))
 ]
 
 -- What follows a record that could be made.
@@ -60,9 +60,9 @@ tree-scan es d empty rs [] = Ok rs
 tree-scan es d empty rs (t ∷ []) = elim (end-fault d (length rs)) [ None ↦ Ok rs | Some c ↦ Err (tree-fault c (t .start)) ]
 tree-scan es d empty rs (t ∷ u ∷ us) = elim (t .what) [
   | word w ↦
-    cond (is-open (u .what))
-    (after (node-answer es d (length rs) w (t .start)) (λ r. tree-scan es (d + 1) true (rs ++ (r ∷ [])) us))
-    (Err (tree-fault BadText (t .start)))
+      cond (is-open (u .what))
+      (after (node-answer es d (length rs) w (t .start)) (λ r. tree-scan es (d + 1) true (rs ++ (r ∷ [])) us))
+      (Err (tree-fault BadText (t .start)))
   | quoted w ↦ after (node-answer es d (length rs) w (t .start)) (λ r. tree-scan es d false (rs ++ (r ∷ [])) (u ∷ us))
   | variable k w ↦ Err (tree-fault BadText (t .start))
   | sign b ↦ elim (sign-fault b d empty) [ None ↦ tree-scan es (d - 1) false rs (u ∷ us) | Some c ↦ Err (tree-fault c (t .start)) ]

@@ -5,10 +5,12 @@ use crate::operands::read_hex;
 use crate::operands::read_records;
 use crate::print::print_count;
 use crate::print::print_image;
+use crate::print::print_refusal;
 use crate::print::print_tree;
 use labels::book::Book;
 use std::io;
 use std::io::Write;
+use texts::tree::read_tree;
 use trees::Tree;
 use trees::image::Image;
 use trees::image::ImageMeant;
@@ -17,10 +19,16 @@ use trees::image::check_image;
 use trees::outline::Outline;
 use trees::outline::OutlineMeant;
 use trees::outline::OutlineTree;
+use trees::outline::Record;
 use trees::outline::check_outline;
 
 // How many bytes the image of the largest tree has.
 const IMAGE_ROOM: usize = 24576;
+
+// How many records the outline of the largest tree has.
+const OUTLINE_ROOM: usize = 4096;
+
+const NO_RECORD: Record = Record { depth: 0, label: 0 };
 
 impl Desk {
     pub(crate) fn set_image<W: Write>(&mut self, hex: &[u8], out: &mut W) -> io::Result<bool> {
@@ -40,6 +48,28 @@ impl Desk {
         let places = Outline::new(records.as_mut_slice()).places();
         self.store = Store::Outline(records);
         writeln!(out, "ok outline, {places} places")?;
+        Ok(true)
+    }
+
+    // Reads tree text; a refusal leaves the tree that stood.
+    pub(crate) fn set_tree<W: Write>(&mut self, text: &[u8], out: &mut W) -> io::Result<()> {
+        let room = self.take_room(OUTLINE_ROOM);
+        let mut records = vec![in self.heap; NO_RECORD; room]?;
+        match read_tree(self.book.as_slice(), text, records.as_mut_slice()) {
+            Ok(count) => {
+                records.truncate(count);
+                self.store = Store::Outline(records);
+                writeln!(out, "ok outline, {count} places")
+            }
+            Err(refusal) => print_refusal(out, refusal),
+        }
+    }
+
+    pub(crate) fn set_tree_hex<W: Write>(&mut self, hex: &[u8], out: &mut W) -> io::Result<bool> {
+        let Some(text) = read_hex(self.heap, hex)? else {
+            return Ok(false);
+        };
+        self.set_tree(text.as_slice(), out)?;
         Ok(true)
     }
 
