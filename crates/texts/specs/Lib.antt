@@ -1,3 +1,5 @@
 -- What the texts of trees and patterns are.
 pub mod Bytes
 pub mod Tokens
+pub mod PatternText
+pub mod PatternSteps

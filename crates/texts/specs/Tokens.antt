@@ -89,7 +89,7 @@ pub record Spot : Type 0 where
   pub to : ℕ
 
 -- The next token from i on.
-abbrev pub next-token : List ℕ → ℕ → Spot
+unfoldable pub next-token : List ℕ → ℕ → Spot
 next-token s i = (let b = run-end Blanks s i in record { what = token-at s b .what; start = b; to = token-at s b .to })
 
 -- A token is the end of its text.
@@ -104,12 +104,12 @@ is-end fault = false
 is-end end = true
 
 -- The tokens from i on, at most n.
-abbrev pub lex : ℕ → List ℕ → ℕ → List Spot
+unfoldable pub lex : ℕ → List ℕ → ℕ → List Spot
 lex zero s i = []
 lex (suc n) s i = next-token s i ∷ cond (is-end (next-token s i .what)) [] (lex n s (next-token s i .to))
 
 -- The tokens from i on, the last of which is the end of the text.
-abbrev pub tokens-from : List ℕ → ℕ → List Spot
+unfoldable pub tokens-from : List ℕ → ℕ → List Spot
 tokens-from s i = lex (suc (length s - i)) s i
 
 -- The tokens of a text.

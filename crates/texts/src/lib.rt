@@ -1,4 +1,5 @@
 // Tree text and pattern text: the reader and its tokens, and what they are read into.
-pub mod bytes;
+mod bytes;
+pub mod pattern;
 pub mod reader;
 pub mod token;
