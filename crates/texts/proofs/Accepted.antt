@@ -61,10 +61,10 @@ number-below (n ∷ ns) w x h =
 
 numbered : (ns : List (List ℕ)) (w : List ℕ) (x : ℕ) → length ns ≤ 16 → number-for ns w ≡ Ok x → (x < 16) × (length (names-with ns w) ≤ 16)
 numbered ns w x l h =
-    let go : (o : Option ℕ) → number-in ns w ≡ o → (elim o as (λ _. Result ℕ Cause) [ Some y ↦ Ok y | None ↦ cond (ltb 15 (length ns)) (Err TooMany) (Ok (length ns)) ]) ≡ Ok x → (x < 16) × (length (elim o as (λ _. List (List ℕ)) [ Some y ↦ ns | None ↦ w ∷ ns ]) ≤ 16) =
-    λ o. elim o as (λ o. number-in ns w ≡ o → (elim o as (λ _. Result ℕ Cause) [ Some y ↦ Ok y | None ↦ cond (ltb 15 (length ns)) (Err TooMany) (Ok (length ns)) ]) ≡ Ok x → (x < 16) × (length (elim o as (λ _. List (List ℕ)) [ Some y ↦ ns | None ↦ w ∷ ns ]) ≤ 16)) [
+    let go : (o : Option ℕ) → number-in ns w ≡ o → (elim o as (λ _. Result ℕ Cause) [ Some y ↦ Ok y | None ↦ cond (ltb 15 (length ns)) (Err TooMany) (Ok (length ns)) ]) ≡ Ok x → (x < 16) × (length (elim o as (λ _. List (List ℕ)) [ Some y ↦ ns | None ↦ cond (ltb 15 (length ns)) ns (w ∷ ns) ]) ≤ 16) =
+    λ o. elim o as (λ o. number-in ns w ≡ o → (elim o as (λ _. Result ℕ Cause) [ Some y ↦ Ok y | None ↦ cond (ltb 15 (length ns)) (Err TooMany) (Ok (length ns)) ]) ≡ Ok x → (x < 16) × (length (elim o as (λ _. List (List ℕ)) [ Some y ↦ ns | None ↦ cond (ltb 15 (length ns)) ns (w ∷ ns) ]) ≤ 16)) [
       | Some y ↦ λ p q. let e : y ≡ x = same-ok q in (omega (arith, number-below ns w y p), l)
-      | None ↦ λ p q. let a = else-ok (ltb 15 (length ns)) (Ok (length ns)) TooMany q in let b = ltb-false 15 (length ns) (a .0) in let e = same-ok (a .1) in (omega arith, omega arith)
+      | None ↦ λ p q. let a = else-ok (ltb 15 (length ns)) (Ok (length ns)) TooMany q in let b = ltb-false 15 (length ns) (a .0) in let e = same-ok (a .1) in let f = ap length (cond-false (ltb 15 (length ns)) ns (w ∷ ns) (a .0)) in (omega arith, omega arith)
     ] in
     go (number-in ns w) refl h
 

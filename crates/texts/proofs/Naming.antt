@@ -14,7 +14,7 @@ use Rattle.std.specs.shelf.Text.{sameBytes}
 use Rattle.std.proofs.shelf.Edits.{length-between}
 use Rattle.std.proofs.shelf.Equals.{sameBytes-decides}
 use Rattle.std.proofs.shelf.Lists.{getD-past}
-use Rattle.std.proofs.shelf.Tests.{false≢true, true≢false, cond-both, cond-true, cond-false, and-parts, cases-lt, ltb-true, le-ltb, cases-eq}
+use Rattle.std.proofs.shelf.Tests.{false≢true, true≢false, cond-both, cond-true, cond-false, and-parts, cases-lt, ltb-true, le-ltb, lt-ltb, cases-eq, eq-eqb, ne-eqb}
 use Rattle.std.specs.declared.option.Option.{Option}
 use Rattle.std.specs.declared.option.Option.the-variants.{Some, None}
 use Rattle.texts.specs.declared.bytes.Kind.the-variants.{Blanks, Words, Names, Quotes}
@@ -25,7 +25,7 @@ use Rattle.std.specs.declared.result.Result.the-variants.{Ok, Err}
 use Rattle.refusals.specs.declared.Cause.{Cause}
 use Rattle.refusals.specs.declared.Cause.the-variants.{TooMany}
 use Rattle.texts.specs.declared.pattern.names.Names.{Names as Kept}
-use Rattle.texts.specs.PatternText.{number-in, number-for, names-with}
+use Rattle.texts.specs.PatternText.{number-in, number-for, names-with, name-numbered}
 use Rattle.texts.specs.PatternSteps.{parts, names-in, Lie-in, Ends-at}
 use Rattle.texts.proofs.Lexing.{run-within}
 
@@ -62,8 +62,29 @@ found-later n ns w e = cond-false _ _ _ (bool-cases (sameBytes n w) (λ t. absur
 pub number-new : (ns : List (List ℕ)) (w : List ℕ) → number-in ns w ≡ None → length ns < 16 → number-for ns w ≡ Ok (length ns)
 number-new ns w e h = ap (λ (o : Option ℕ). elim o as (λ _. Result ℕ Cause) [ Some x ↦ Ok x | None ↦ cond (ltb 15 (length ns)) (Err TooMany) (Ok (length ns)) ]) e ∙ cond-false _ _ _ (le-ltb 15 (length ns) (omega arith))
 
-pub names-new : (ns : List (List ℕ)) (w : List ℕ) → number-in ns w ≡ None → names-with ns w ≡ w ∷ ns
-names-new ns w e = ap (λ (o : Option ℕ). elim o as (λ _. List (List ℕ)) [ Some x ↦ ns | None ↦ w ∷ ns ]) e
+pub names-new : (ns : List (List ℕ)) (w : List ℕ) → number-in ns w ≡ None → length ns < 16 → names-with ns w ≡ w ∷ ns
+names-new ns w e h = ap (λ (o : Option ℕ). elim o as (λ _. List (List ℕ)) [ Some x ↦ ns | None ↦ cond (ltb 15 (length ns)) ns (w ∷ ns) ]) e ∙ cond-false _ _ _ (le-ltb 15 (length ns) (omega arith))
+
+pub names-old : (ns : List (List ℕ)) (w : List ℕ) (x : ℕ) → number-in ns w ≡ Some x → names-with ns w ≡ ns
+names-old ns w x e = ap (λ (o : Option ℕ). elim o as (λ _. List (List ℕ)) [ Some y ↦ ns | None ↦ cond (ltb 15 (length ns)) ns (w ∷ ns) ]) e
+
+pub names-full : (ns : List (List ℕ)) (w : List ℕ) → number-in ns w ≡ None → 16 ≤ length ns → names-with ns w ≡ ns
+names-full ns w e h = ap (λ (o : Option ℕ). elim o as (λ _. List (List ℕ)) [ Some y ↦ ns | None ↦ cond (ltb 15 (length ns)) ns (w ∷ ns) ]) e ∙ cond-true _ _ _ (lt-ltb 15 (length ns) (omega arith))
+
+pub name-inside : (s starts ends : List ℕ) (n k : ℕ) → k < n → name-numbered (parts s starts ends n) k ≡ Some (between (getD starts k 0) (getD ends k 0) s)
+name-inside s starts ends zero k h = absurd (omega arith)
+name-inside s starts ends (suc n) k h =
+    let l = length-parts s starts ends n in
+    ⊎-elim
+    (λ e. cond-true (eqb k (length (parts s starts ends n))) _ _ (eq-eqb k (length (parts s starts ends n)) (omega arith)) ∙ ap (λ (j : ℕ). Some (between (getD starts j 0) (getD ends j 0) s)) (sym e))
+    (λ d. cond-false (eqb k (length (parts s starts ends n))) _ _ (ne-eqb k (length (parts s starts ends n)) (λ e. d (e ∙ l))) ∙ name-inside s starts ends n k (omega arith))
+    (cases-eq k n)
+
+pub name-outside : (s starts ends : List ℕ) (n k : ℕ) → n ≤ k → name-numbered (parts s starts ends n) k ≡ None
+name-outside s starts ends zero k h = refl
+name-outside s starts ends (suc n) k h =
+    let l = length-parts s starts ends n in
+    cond-false (eqb k (length (parts s starts ends n))) _ _ (ne-eqb k (length (parts s starts ends n)) (λ e. omega arith)) ∙ name-outside s starts ends n k (omega arith)
 
 -- a name that lies in the text joins others that do
 pub lie-more : (s : List ℕ) (x y : Kept) (a b : ℕ) → Lie-in s x → y .starts ≡ set (x .starts) (x .count) a → y .ends ≡ set (x .ends) (x .count) b → y .count ≡ x .count + 1 → x .count < 16 → x .count < length (x .starts) → x .count < length (x .ends) → a ≤ b → b ≤ length s → Lie-in s y

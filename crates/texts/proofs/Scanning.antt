@@ -8,6 +8,9 @@ use native.Mathlib.Omega.{arith}
 use lib.Dec.{ltb}
 use lib.Seq.{length-take-le}
 use Rattle.std.proofs.shelf.Tests.{cond-true, cond-false, false≢true, true≢false, lt-ltb, le-ltb}
+use denote.Ref.{RefT}
+use Rattle.std.specs.Holes.{between}
+use Rattle.std.specs.declared.option.Option.{Option}
 use Rattle.std.specs.declared.option.Option.the-variants.{Some, None}
 use Rattle.std.specs.declared.result.Result.{Result}
 use Rattle.std.specs.declared.result.Result.the-variants.{Ok, Err}
@@ -22,8 +25,8 @@ use Rattle.texts.specs.declared.token.Token.the-variants.{Word, Quoted, Variab
 use Rattle.texts.specs.Tokens.{Shape, open-group, close-group, end, Spot, shape, next-token, is-end, tokens-from}
 use Rattle.patterns.specs.declared.row.Row.{Row}
 use Rattle.patterns.specs.Elements.{elements-of}
-use Rattle.texts.specs.PatternSteps.{stops, Fine}
-use Rattle.texts.specs.PatternText.{Draft, also, drafted, leaf-of, names-after, one-more, with-leaf, with-token, pattern-fault, pattern-scan}
+use Rattle.texts.specs.PatternSteps.{stops, Ends-at, Fine}
+use Rattle.texts.specs.PatternText.{Draft, also, drafted, leaf-of, names-after, names-among, names-with, one-more, with-leaf, with-token, pattern-fault, pattern-scan}
 use Rattle.texts.proofs.Lexing.{rest-of, some-token, token-step, end-step}
 
 pub length-fine : (r : Row) → Fine r → length (elements-of r) ≡ r .count
@@ -132,3 +135,42 @@ module _ (es : List Entry) (s : List ℕ) (i : ℕ) (xs : List Element) (ns : Li
 
     pub leaf-read : (y : Element) → i ≤ length s → leaf-of es ns x ≡ Ok y → length xs < 64 → pattern-scan es (drafted xs gs ns) (tokens-from s i) ≡ pattern-scan es (drafted (xs ++ (y ∷ [])) gs (names-after ns x)) (tokens-from s (next-token s i .to))
     leaf-read y v w h = scan-token es s i (drafted xs gs ns) x q v (leaf .goes) _ (leaf .same es (drafted xs gs ns) ∙ ap (λ r. also r (λ z. also (one-more xs z) (λ ys. Ok (drafted ys gs (names-after ns x))))) w ∙ ap (λ r. also r (λ ys. Ok (drafted ys gs (names-after ns x)))) (has-room y h))
+
+names-next : (ns : List (List ℕ)) (t : Spot) (ts : List Spot) → names-among ns (t ∷ ts) ≡ names-among (names-after ns (t .what)) ts
+unfolding names-among
+names-next ns t ts = refl
+
+names-none : (ns : List (List ℕ)) → names-among ns [] ≡ ns
+unfolding names-among
+names-none ns = refl
+
+-- the names among the tokens left, at the next token and at the end
+pub names-step : (s : List ℕ) (i : ℕ) (ns : List (List ℕ)) (x : Shape) → x ≡ next-token s i .what → i ≤ length s → is-end x ≡ false → names-among ns (tokens-from s i) ≡ names-among (names-after ns x) (tokens-from s (next-token s i .to))
+names-step s i ns x q h n =
+    ap (names-among ns) (token-step s i h (ap is-end (sym q) ∙ n)) ∙ names-next ns (next-token s i) (tokens-from s (next-token s i .to))
+    ∙ ap (λ (y : Shape). names-among (names-after ns y) (tokens-from s (next-token s i .to))) (sym q)
+
+pub names-stop : (s : List ℕ) (i : ℕ) (ns : List (List ℕ)) → end ≡ next-token s i .what → names-among ns (tokens-from s i) ≡ ns
+names-stop s i ns q =
+    ap (names-among ns) (end-step s i (ap is-end (sym q))) ∙ names-next ns (next-token s i) []
+    ∙ ap (λ (y : Shape). names-among (names-after ns y) []) (sym q) ∙ names-none ns
+
+-- a token that is no variable adds no name
+pub names-same : (t : Token) (ns : List (List ℕ)) → ((k : Option (RefT (List ℕ))) (w : RefT (List ℕ)) → t ≡ Variable k w → ⊥) → (t ≡ End → ⊥) → (names-after ns (shape t) ≡ ns) × (is-end (shape t) ≡ false)
+names-same (Word w) ns v n = (refl, refl)
+names-same (Quoted w) ns v n = (refl, refl)
+names-same (Variable k w) ns v n = absurd (v k w refl)
+names-same (Sign b) ns v n = (refl, refl)
+names-same GroupOpen ns v n = (refl, refl)
+names-same GroupClose ns v n = (refl, refl)
+names-same Fault ns v n = (refl, refl)
+names-same End ns v n = absurd (n refl)
+
+-- what a variable adds, and where its name lies
+pub names-variable : (k : Option (RefT (List ℕ))) (w : RefT (List ℕ)) (ns : List (List ℕ)) → (names-after ns (shape (Variable k w)) ≡ names-with ns (w .now)) × (is-end (shape (Variable k w)) ≡ false)
+names-variable None w ns = (refl, refl)
+names-variable (Some k) w ns = (refl, refl)
+
+pub name-lies : (k : Option (RefT (List ℕ))) (w : RefT (List ℕ)) (s : List ℕ) (j : ℕ) → Ends-at s (shape (Variable k w)) j → (length (w .now) ≤ j) × (j ≤ length s) × (between (j - length (w .now)) j s ≡ w .now)
+name-lies None w s j h = h
+name-lies (Some k) w s j h = h

@@ -42,9 +42,9 @@ number-in (n ∷ ns) w = cond (sameBytes n w) (Some (length ns)) (number-in ns w
 abbrev pub number-for : List (List ℕ) → List ℕ → Result ℕ Cause
 number-for ns w = elim (number-in ns w) [ Some x ↦ Ok x | None ↦ cond (ltb 15 (length ns)) (Err TooMany) (Ok (length ns)) ]
 
--- The names with one that may be new.
+-- The names with one that may be new; there are at most 16.
 abbrev pub names-with : List (List ℕ) → List ℕ → List (List ℕ)
-names-with ns w = elim (number-in ns w) [ Some x ↦ ns | None ↦ w ∷ ns ]
+names-with ns w = elim (number-in ns w) [ Some x ↦ ns | None ↦ cond (ltb 15 (length ns)) ns (w ∷ ns) ]
 
 -- The element of a lexeme.
 abbrev pub lexeme-of : List Entry → List ℕ → Result Element Cause
@@ -136,3 +136,13 @@ scanned es ts = also (pattern-scan es (drafted [] [] []) ts) (λ d. Ok (d .eleme
 -- The elements of a pattern text by a book that was read, or the first fault of the book or the text.
 abbrev pub read-elements : Result (List Entry) Refusal → List Spot → Result (List Element) Refusal
 read-elements b ts = also b (λ es. scanned es ts)
+
+-- The names of the variables in these tokens, behind those that stand, the last first.
+unfoldable pub names-among : List (List ℕ) → List Spot → List (List ℕ)
+names-among ns [] = ns
+names-among ns (t ∷ ts) = names-among (names-after ns (t .what)) ts
+
+-- The name that has this number.
+abbrev pub name-numbered : List (List ℕ) → ℕ → Option (List ℕ)
+name-numbered [] x = None
+name-numbered (n ∷ ns) x = cond (eqb x (length ns)) (Some n) (name-numbered ns x)

@@ -1,13 +1,16 @@
 // The reading of pattern text into a pattern.
 ghost use mathlib.Core.Path.{_≡_};
+ghost use mathlib.Core.List.{[]};
+ghost use Rattle.std.specs.Options.{mapped};
 ghost use Rattle.std.specs.Results.{Cases};
 ghost use Rattle.std.specs.declared.result.Result.the-variants.{Ok, Err};
 ghost use Rattle.labels.specs.Entries.{entries, read-book};
 ghost use Rattle.patterns.specs.Elements.{elements-of};
 ghost use Rattle.texts.specs.Tokens.{tokens};
-ghost use Rattle.texts.specs.PatternText.{read-elements, scanned};
+ghost use Rattle.texts.specs.PatternText.{name-numbered, names-among, read-elements, scanned};
 ghost use Rattle.texts.specs.PatternSteps.{Fine, Read};
 use crate::reader::Reader;
+use crate::token::Token;
 use labels::book::Book;
 use levels::finish;
 use levels::level;
@@ -63,5 +66,22 @@ pub fn read_pattern(book: &[u8], text: &[u8]) -> Result<Pattern, Refusal>
     match Pattern::from_row(row) {
         Some(pattern) => Ok(pattern),
         None => unreachable(),
+    }
+}
+
+/// The name of a variable by its number, which is the part of the text where it first stands.
+pub fn variable_name(text: &[u8], number: usize) -> Option<&[u8]>
+    ensures { λ r. ⌜ mapped now r ≡ name-numbered (names-among [] (tokens (now (text .entry)))) number ⌝ }
+{
+    let mut reader = Reader::new(text);
+    let mut names = Names::new();
+    loop {
+        match reader.next() {
+            Token::End => return names.name(text, number),
+            Token::Variable { name, .. } => {
+                let _known = names.number(text, name, reader.at());
+            }
+            _ => {}
+        }
     }
 }

@@ -1,12 +1,11 @@
 // The names of the variables of a pattern text.
 ghost use mathlib.Core.Path.{_≡_};
-ghost use mathlib.Core.Bool.{true};
 ghost use Prim.Native.Nat.{_+_, _-_, _≤_, _<_};
 ghost use lib.ListN.{length, set};
 ghost use Rattle.std.specs.Holes.{between};
-ghost use Rattle.std.specs.Results.{isOk};
+ghost use Rattle.std.specs.Options.{mapped};
 ghost use Rattle.std.specs.Slices.{found};
-ghost use Rattle.texts.specs.PatternText.{number-in, number-for, names-with};
+ghost use Rattle.texts.specs.PatternText.{number-in, number-for, names-with, name-numbered};
 ghost use Rattle.texts.specs.PatternSteps.{names-in, Lie-in};
 use refusals::Cause;
 
@@ -70,7 +69,7 @@ impl Names {
         requires here { ⌜ between (end - length (now name)) end (now text) ≡ now name ⌝ }
         ensures value { λ r. ⌜ r ≡ number-for (names-in (now (text .entry)) (now (self .entry))) (now (name .entry)) ⌝ }
         ensures lie { λ _. ⌜ Lie-in (now (text .entry)) (now (self .exit)) ⌝ }
-        ensures names { λ r. ⌜ (isOk r ≡ true → names-in (now (text .entry)) (now (self .exit)) ≡ names-with (names-in (now (text .entry)) (now (self .entry))) (now (name .entry))) ⌝ }
+        ensures names { λ _. ⌜ names-in (now (text .entry)) (now (self .exit)) ≡ names-with (names-in (now (text .entry)) (now (self .entry))) (now (name .entry)) ⌝ }
     {
         if let Some(number) = self.find(text, name) {
             return Ok(number as u8);
@@ -81,5 +80,17 @@ impl Names {
         }
         self.note(end - name.len(), end);
         Ok(number as u8)
+    }
+
+    /// The name with a number, which is the part of the text where it first stands.
+    pub(crate) fn name<'a>(&self, text: &'a [u8], number: usize) -> Option<&'a [u8]>
+        requires { ⌜ Lie-in (now text) (now self) ⌝ }
+        ensures { λ r. ⌜ mapped now r ≡ name-numbered (names-in (now (text .entry)) (now (self .entry))) number ⌝ }
+    {
+        if number < self.count {
+            Some(&text[self.starts[number]..self.ends[number]])
+        } else {
+            None
+        }
     }
 }

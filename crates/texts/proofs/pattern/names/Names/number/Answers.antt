@@ -28,5 +28,5 @@ returns c =
     record {
       value = ap Ok (sym n) ∙ sym (number-new (names-in s x) w none (omega (arith, n)));
       lie = lie-more s x y a (c .args .end) (c .pre .lie) p q r (omega arith) i j (omega arith) (c .pre .inside);
-      names = λ _. names-more s x y a (c .args .end) w p q r i j (c .pre .here) ∙ sym (names-new (names-in s x) w none);
+      names = names-more s x y a (c .args .end) w p q r i j (c .pre .here) ∙ sym (names-new (names-in s x) w none (omega (arith, n)));
     }
