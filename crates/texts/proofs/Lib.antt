@@ -4,3 +4,8 @@ pub mod Lexing
 pub mod TreeSteps
 pub mod Winning
 pub mod TreeLoops
+pub mod Naming
+pub mod Scanning
+pub mod Grouping
+pub mod Nesting
+pub mod Accepted

@@ -3,3 +3,5 @@ pub mod Bytes
 pub mod Tokens
 pub mod TreeText
 pub mod Steps
+pub mod PatternText
+pub mod PatternSteps

@@ -27,6 +27,13 @@ impl<'a> Reader<'a> {
         }
     }
 
+    /// The text.
+    pub(crate) fn text(&self) -> &'a [u8]
+        ensures { λ r. ⌜ now r ≡ now (self .entry) .text .now ⌝ }
+    {
+        self.text
+    }
+
     /// Where the last token starts.
     pub fn start(&self) -> usize
         ensures { λ r. ⌜ r ≡ now (self .entry) .start ⌝ }
