@@ -18,6 +18,10 @@ pub(crate) enum Command<'a> {
     Show,
     Write,
     Room(u32),
+    Pattern(&'a [u8]),
+    PatternHex(&'a [u8]),
+    Match(u32, &'a [u8]),
+    Find(&'a [u8]),
 }
 
 impl<'a> Command<'a> {
@@ -25,10 +29,13 @@ impl<'a> Command<'a> {
     pub(crate) fn read(line: &'a [u8]) -> Option<Command<'a>> {
         let (word, behind) = split_word(line);
         let rest = behind.unwrap_or(b"");
-        match book_command(word, rest) {
-            None => tree_command(word, rest),
-            read => read,
+        if let Some(command) = book_command(word, rest) {
+            return Some(command);
         }
+        if let Some(command) = tree_command(word, rest) {
+            return Some(command);
+        }
+        search_command(word, rest)
     }
 }
 
@@ -57,6 +64,16 @@ fn tree_command<'a>(word: &[u8], rest: &'a [u8]) -> Option<Command<'a>> {
     }
 }
 
+fn search_command<'a>(word: &[u8], rest: &'a [u8]) -> Option<Command<'a>> {
+    match word {
+        b"pattern" => Some(Command::Pattern(rest)),
+        b"pattern-hex" => Some(Command::PatternHex(rest)),
+        b"match" => read_match(rest),
+        b"find" => Some(Command::Find(rest)),
+        _ => None,
+    }
+}
+
 // A command with no operand.
 fn alone<'a>(rest: &[u8], command: Command<'a>) -> Option<Command<'a>> {
     if rest.is_empty() { Some(command) } else { None }
@@ -65,4 +82,10 @@ fn alone<'a>(rest: &[u8], command: Command<'a>) -> Option<Command<'a>> {
 fn read_label(rest: &[u8]) -> Option<Command<'_>> {
     let (number, name) = split_word(rest);
     Some(Command::Label(read_number(number)?, name?))
+}
+
+// A place and a text, which may be empty.
+fn read_match(rest: &[u8]) -> Option<Command<'_>> {
+    let (number, text) = split_word(rest);
+    Some(Command::Match(read_number(number)?, text.unwrap_or(b"")))
 }

@@ -1,9 +1,11 @@
 // What a script works on, and which command is whose.
 mod books;
 mod designs;
+mod searches;
 
 use crate::command::Command;
 use crate::print::print_count;
+use crate::search::print_pattern;
 use std::alloc::Global;
 use std::io;
 use std::io::Write;
@@ -72,6 +74,10 @@ impl Desk {
                 self.room = Some(room);
                 writeln!(out, "ok room {room}")?;
             }
+            Command::Pattern(text) => print_pattern(out, self.book.as_slice(), text)?,
+            Command::PatternHex(hex) => return self.pattern_hex(hex, out),
+            Command::Match(place, text) => self.match_place(place as usize, text, out)?,
+            Command::Find(text) => self.find(text, out)?,
         }
         Ok(true)
     }

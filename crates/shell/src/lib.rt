@@ -10,6 +10,7 @@ mod desk;
 mod lines;
 mod operands;
 mod print;
+mod search;
 
 /// Obeys a script line by line, writes what it answers, and says whether every line was understood.
 pub fn run<W: Write>(heap: Global, script: &[u8], out: &mut W) -> io::Result<bool> {
