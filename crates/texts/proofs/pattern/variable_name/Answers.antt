@@ -53,8 +53,8 @@ loop-names-again-in-Variable c =
       ap (λ z. z .now) (c .next .ensures .same) ∙ c .loop-names .inv .0,
       c .number-known .ensures .lie,
       c .loop-names .inv .2 ∙ names-step s i ns _ q (omega (arith, o .0, o .1)) (v .1)
-      ∙ ap (λ ms. names-among ms (tokens-from s (next-token s i .to))) (v .0 ∙ sym (c .number-known .ensures .names))
-      ∙ ap (λ (k : ℕ). names-among (names-in s (c .number-known .last .self)) (tokens-from s k)) (sym (o .2)),
+          ∙ ap (λ ms. names-among ms (tokens-from s (next-token s i .to))) (v .0 ∙ sym (c .number-known .ensures .names))
+          ∙ ap (λ (k : ℕ). names-among (names-in s (c .number-known .last .self)) (tokens-from s k)) (sym (o .2)),
     )
 
 pub loop-names-less : need.loop-names-less
@@ -74,6 +74,6 @@ loop-names-again c =
       ap (λ z. z .now) (c .next .ensures .same) ∙ c .loop-names .inv .0,
       c .loop-names .inv .1,
       c .loop-names .inv .2 ∙ names-step s i ns _ q (omega (arith, o .0, o .1)) (v .1)
-      ∙ ap (λ ms. names-among ms (tokens-from s (next-token s i .to))) (v .0)
-      ∙ ap (λ (k : ℕ). names-among ns (tokens-from s k)) (sym (o .2)),
+          ∙ ap (λ ms. names-among ms (tokens-from s (next-token s i .to))) (v .0)
+          ∙ ap (λ (k : ℕ). names-among ns (tokens-from s k)) (sym (o .2)),
     )
