@@ -30,3 +30,7 @@ size-answer m p = cond (ltb p (length m)) (Ok (size-at m p)) (Err no-such-place)
 -- The answer to a label put at a place.
 abbrev pub put-answer : Forest → ℕ → ℕ → Result (Unit {0}) Refusal
 put-answer m p l = cond (ltb p (length m)) (cond (ltb l 32768) (Ok tt) (Err label-too-large)) (Err no-such-place)
+
+-- The answer to a label put at a place in exchange for the one that stood there.
+abbrev pub replace-answer : Forest → ℕ → ℕ → Result ℕ Refusal
+replace-answer m p l = cond (ltb p (length m)) (cond (ltb l 32768) (Ok (label-at m p)) (Err label-too-large)) (Err no-such-place)

@@ -3,9 +3,14 @@ ghost use mathlib.Core.Path.{_≡_};
 ghost use lib.ListN.{length};
 ghost use Rattle.std.specs.Results.{Cases};
 ghost use Rattle.trees.specs.Forest.{Forest, Law, relabel};
-ghost use Rattle.trees.specs.Laws.{Same-is-equal, Relabel-keeps-the-law, Relabel-goes-back};
 ghost use Rattle.trees.specs.Questions.{label-answer, size-answer, put-answer};
 use refusals::Refusal;
+
+pub mod any;
+pub mod image;
+pub mod outline;
+mod record;
+pub mod write;
 
 /// What a tree means: its nodes in preorder, which keep the law of every tree.
 /// A trait of its own, with no method, so that each make proves the law by itself.
@@ -36,25 +41,4 @@ pub trait ChangeableTree: Tree {
     fn put(&mut self, place: usize, label: u16) -> Result<(), Refusal>
         ensures answer { λ r. ⌜ r ≡ put-answer (Self·Meant .meaning (now (self .entry))) place label ⌝ }
         ensures done { λ r. ⌜ Cases r (λ _. Self·Meant .meaning (now (self .exit)) ≡ relabel (Self·Meant .meaning (now (self .entry))) place label) (λ _. now (self .exit) ≡ now (self .entry)) ⌝ };
-}
-
-/// The test of two forests tells equal ones.
-pub fn same_is_equal() -> u8
-    ensures { λ _. ⌜ Same-is-equal ⌝ }
-{
-    0
-}
-
-/// A tree under another label is still a tree.
-pub fn relabel_keeps_the_law() -> u8
-    ensures { λ _. ⌜ Relabel-keeps-the-law ⌝ }
-{
-    0
-}
-
-/// A label put over another is taken back by putting the other.
-pub fn relabel_goes_back() -> u8
-    ensures { λ _. ⌜ Relabel-goes-back ⌝ }
-{
-    0
 }
