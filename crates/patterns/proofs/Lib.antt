@@ -1,0 +1,3 @@
+-- The proofs.
+pub mod Slots
+pub mod Kept

@@ -1,0 +1,2 @@
+-- When a row of elements is a pattern.
+pub mod Elements
