@@ -4,6 +4,7 @@ use crate::marks::Marks;
 use crate::shelf::Shelf;
 use trees::ChangeableTree;
 
+mod asks;
 mod clicks;
 mod makes;
 
