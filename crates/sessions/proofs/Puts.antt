@@ -11,8 +11,8 @@ use Rattle.std.specs.declared.result.Result.{Result}
 use Rattle.std.specs.declared.result.Result.the-variants.{Ok, Err}
 use Rattle.std.specs.Results.{Cases}
 use Rattle.refusals.specs.declared.Refusal.{Refusal}
-use Rattle.trees.specs.Forest.{Forest, label-at, relabel}
-use Rattle.trees.specs.Questions.{label-answer, put-answer, no-such-place, label-too-large}
+use Rattle.trees.specs.Forest.{Forest, label-at, size-at, relabel}
+use Rattle.trees.specs.Questions.{label-answer, size-answer, put-answer, no-such-place, label-too-large}
 use Rattle.trees.proofs.Relabel.{relabel-out}
 
 ok-in : (b : Bool) (x v : ℕ) → _≡_ {A = Result ℕ Refusal} (Ok v) (cond b (Ok x) (Err no-such-place)) → (b ≡ true) × (v ≡ x)
@@ -29,6 +29,10 @@ label-inside m p v h = let k = ok-in (ltb p (length m)) (label-at m p) v h in (l
 
 pub label-outside : (m : Forest) (p : ℕ) (e : Refusal) → Err e ≡ label-answer m p → (length m ≤ p) × (e ≡ no-such-place)
 label-outside m p e h = let k = err-in (ltb p (length m)) (label-at m p) e h in (ltb-false p (length m) (k .0), k .1)
+
+-- a size that was refused
+pub size-outside : (m : Forest) (p : ℕ) (e : Refusal) → Err e ≡ size-answer m p → length m ≤ p
+size-outside m p e h = ltb-false p (length m) (err-in (ltb p (length m)) (size-at m p) e h .0)
 
 ok-put : (b w : Bool) (x : Unit {0}) → _≡_ {A = Result (Unit {0}) Refusal} (Ok x) (cond b (cond w (Ok tt) (Err label-too-large)) (Err no-such-place)) → (b ≡ true) × (w ≡ true)
 ok-put true true x h = (refl, refl)

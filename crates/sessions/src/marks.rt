@@ -1,5 +1,6 @@
 // The marks of the last rebuild, and what happened since.
 mod notes;
+mod tries;
 
 ghost use mathlib.Core.Path.{_≡_};
 ghost use mathlib.Core.List.{[]};

@@ -7,6 +7,7 @@ use trees::ChangeableTree;
 mod asks;
 mod clicks;
 mod makes;
+mod rebuilds;
 
 /// A tree with its name, the patterns that are looked for in it, the clicks that can be undone, and the marks of the last
 /// rebuild.
