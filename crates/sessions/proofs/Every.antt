@@ -1,0 +1,65 @@
+-- The law of every run, from its parts, and as a played run has it.
+use mathlib.Core.Path.{_≡_, refl, sym, subst}
+use mathlib.Core.List.{List, [], _∷_, List·Memᴰ, List·Memᴰ·head, List·Memᴰ·tail}
+use Prim.Native.Nat.{ℕ}
+use Rattle.patterns.specs.declared.row.Element.{Element}
+use Rattle.patterns.specs.Elements.{Well-formed}
+use Rattle.trees.specs.Forest.{Forest, Law}
+use Rattle.sessions.specs.Session.{State, Call, open-click, change, commit, abandon, undo, settle, add, rebuild, ask, making}
+use Rattle.sessions.specs.Runs.{run, new-log, Log, log-of, Reached, Every-state, Every-run, Played, Played-both}
+use Rattle.sessions.proofs.Turns.{effects}
+use Rattle.sessions.proofs.Back.{Follows, follows-run, accepted, undos-bring-back, abandon-brings-back}
+use Rattle.sessions.proofs.Marking.{Steady, steady}
+use Rattle.sessions.proofs.Findings.{after-a-rebuild, same-answers, questions}
+
+every-state : (m : Forest) (a : ℕ) (cs : List Call) (s : State) → Reached m a cs s → Every-state s (log-of m a cs)
+every-state m a cs s r =
+    let k : Log = log-of m a cs in
+    let h : Steady s = steady r in
+    let f : Follows s k = subst (λ (t : State). Follows t k) (r .by-calls) (follows-run (making m a) cs (new-log m) (record { chain = refl; open-too = refl; stale-too = refl; counted = refl })) in
+    record {
+      law-of-trees = h .law;
+      accepted = accepted s k f;
+      effects = effects s;
+      questions = questions s k h f;
+      what-is-found-is-right = after-a-rebuild s h;
+      undo-brings-back = undos-bring-back s k f;
+      abandon-brings-back = abandon-brings-back s k f;
+    }
+
+pub every-run : Every-run
+every-run = record {
+  one = every-state;
+  two = λ m n a b cs ds s t r q. record { rebuild-when-you-like = same-answers s t (steady r) (steady q) };
+}
+
+-- a call adds a well-formed pattern, if it adds one
+abbrev pub Right : Call → Type 0
+Right open-click = Unit {0}
+Right (change n p l) = Unit {0}
+Right (commit n) = Unit {0}
+Right (abandon n) = Unit {0}
+Right undo = Unit {0}
+Right settle = Unit {0}
+Right (add p) = Well-formed p
+Right rebuild = Unit {0}
+Right (ask q) = Unit {0}
+
+-- so does each of some calls
+abbrev pub All-right : List Call → Type 0
+All-right [] = Unit {0}
+All-right (c ∷ cs) = Right c × All-right cs
+
+all-patterned : (cs : List Call) → All-right cs → (p : List Element) → List·Memᴰ (add p) cs → Well-formed p
+all-patterned [] h p i = elim i [ ]
+all-patterned (c ∷ cs) h p (List·Memᴰ·head e) = subst Right (sym e) (h .0)
+all-patterned (c ∷ cs) h p (List·Memᴰ·tail i) = all-patterned cs (h .1) p i
+
+pub reached : {m : Forest} {a : ℕ} {cs : List Call} {s : State} → Law m → All-right cs → run (making m a) cs ≡ s → Reached m a cs s
+reached {cs = cs} l h e = record { lawful = l; patterned = all-patterned cs h; by-calls = e }
+
+pub played : {m : Forest} {a : ℕ} {cs : List Call} {s : State} → Law m → All-right cs → run (making m a) cs ≡ s → Played m a cs s
+played {m} {a} {cs} {s} l h e = record { by-calls = e; law = every-run .one m a cs s (reached l h e) }
+
+pub played-both : {m : Forest} {a : ℕ} {cs : List Call} {s : State} {n : Forest} {b : ℕ} {ds : List Call} {t : State} → Law m → All-right cs → run (making m a) cs ≡ s → Law n → All-right ds → run (making n b) ds ≡ t → Played-both m a cs s n b ds t
+played-both {m} {a} {cs} {s} {n} {b} {ds} {t} l h e l′ h′ e′ = record { first = played l h e; second = played l′ h′ e′; law = every-run .two m n a b cs ds s t (reached l h e) (reached l′ h′ e′) }
