@@ -1,5 +1,5 @@
 -- The law of every run, from its parts, and as a played run has it.
-use mathlib.Core.Path.{_≡_, refl, sym, subst}
+use mathlib.Core.Path.{_≡_, sym, subst, _∙_}
 use mathlib.Core.List.{List, [], _∷_, List·Memᴰ, List·Memᴰ·head, List·Memᴰ·tail}
 use Prim.Native.Nat.{ℕ}
 use Rattle.patterns.specs.declared.row.Element.{Element}
@@ -7,19 +7,20 @@ use Rattle.patterns.specs.Elements.{Well-formed}
 use Rattle.trees.specs.Forest.{Forest, Law}
 use Rattle.sessions.specs.Session.{State, Call, open-click, change, commit, abandon, undo, settle, add, rebuild, ask, making}
 use Rattle.sessions.specs.Runs.{run, new-log, Log, log-of, Reached, Every-state, Every-run, Played, Played-both}
-use Rattle.sessions.proofs.Turns.{effects}
-use Rattle.sessions.proofs.Back.{Follows, follows-run, accepted, undos-bring-back, abandon-brings-back}
+use Rattle.sessions.proofs.Turns.{none-there, effects}
+use Rattle.sessions.proofs.Back.{Follows, follows-making, follows-run, accepted, undos-bring-back, abandon-brings-back}
 use Rattle.sessions.proofs.Marking.{Steady, steady}
 use Rattle.sessions.proofs.Findings.{after-a-rebuild, same-answers, questions}
+use Rattle.sessions.proofs.Trying.{rebuild-works}
 
 every-state : (m : Forest) (a : ℕ) (cs : List Call) (s : State) → Reached m a cs s → Every-state s (log-of m a cs)
 every-state m a cs s r =
     let k : Log = log-of m a cs in
     let h : Steady s = steady r in
-    let f : Follows s k = subst (λ (t : State). Follows t k) (r .by-calls) (follows-run (making m a) cs (new-log m) (record { chain = refl; open-too = refl; stale-too = refl; counted = refl })) in
+    let f : Follows s k = subst (λ (t : State). Follows t k) (r .by-calls) (follows-run (making m a) cs (new-log m) (follows-making m a)) in
     record {
       law-of-trees = h .law;
-      accepted = accepted s k f;
+      accepted = accepted s k f (λ o. rebuild-works s k h f (none-there (s .journal .click) (f .open-too ∙ o)));
       effects = effects s;
       questions = questions s k h f;
       what-is-found-is-right = after-a-rebuild s h;

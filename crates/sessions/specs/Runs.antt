@@ -2,17 +2,18 @@
 use mathlib.Core.Path.{_≡_}
 use mathlib.Core.Logic.{_⊎_}
 use mathlib.Core.List.{List, [], _∷_, _++_, List·Memᴰ}
-use mathlib.Core.Bool.{Bool, true, false, cond, not}
+use mathlib.Core.Bool.{Bool, true, false, cond, _&&_, _||_}
 use Prim.Native.Nat.{ℕ, suc, _+_, _-_, _<_, _≤_}
+use lib.Dec.{ltb, leb}
 use lib.ListN.{drop, getD, length, replicate}
 use Rattle.std.specs.declared.option.Option.{Option}
 use Rattle.std.specs.declared.option.Option.the-variants.{Some, None}
 use Rattle.patterns.specs.declared.row.Element.{Element}
-use Rattle.trees.specs.Forest.{Forest, Law, subtree, relabel}
+use Rattle.trees.specs.Forest.{Forest, Law, size-at, subtree, relabel}
 use Rattle.matching.specs.Rules.{Bindings, Outcome, match-at}
 use Rattle.patterns.specs.Elements.{Well-formed}
 use Rattle.matching.specs.Readings.{Reads, Plain, Substitution, bound-trees}
-use Rattle.sessions.specs.Session.{State, Question, findings, first-finding, bindings, Call, open-click, change, commit, abandon, undo, settle, add, rebuild, ask, Answer, done, receipt, number, steps, wrote, found, bound, refused, bound-or-none, making, turn}
+use Rattle.sessions.specs.Session.{State, Question, findings, first-finding, bindings, Call, open-click, change, commit, abandon, undo, settle, add, rebuild, ask, Answer, done, receipt, number, steps, wrote, found, bound, refused, total, bound-or-none, making, turn}
 
 -- The state that a call leaves.
 abbrev pub after : State → Call → State
@@ -49,45 +50,71 @@ pub record Reached (m : Forest) (name : ℕ) (calls : List Call) (s : State) : T
   pub patterned : (p : List Element) → List·Memᴰ (add p) calls → Well-formed p
   pub by-calls : run (making m name) calls ≡ s
 
--- A click that stands, committed or still open: the tree that it was opened on, and how many changes it holds.
+-- A click that stands, committed or still open: the tree that it was opened on, and the places of its changes, the newest first.
 pub record Standing : Type 0 where
   pub opened-on : Forest
-  pub changes : ℕ
+  pub changed : List ℕ
 
 -- What is read where no click stands.
 abbrev pub no-click : Standing
-no-click = record { opened-on = []; changes = 0 }
+no-click = record { opened-on = []; changed = [] }
 
 -- The newest click holds one change more.
-abbrev pub one-more : List Standing → List Standing
-one-more [] = []
-one-more (c ∷ cs) = record { opened-on = c .opened-on; changes = suc (c .changes) } ∷ cs
+abbrev pub one-more : ℕ → List Standing → List Standing
+one-more p [] = []
+one-more p (c ∷ cs) = record { opened-on = c .opened-on; changed = p ∷ c .changed } ∷ cs
 
 -- How many changes some clicks hold.
 abbrev pub changes-held : List Standing → ℕ
 changes-held [] = 0
-changes-held (c ∷ cs) = c .changes + changes-held cs
+changes-held (c ∷ cs) = length (c .changed) + changes-held cs
 
--- What the calls and their answers tell: the tree at the last accepted settling, or else the making, with the accepted commits and undos since then; the clicks that stand, the newest first, and whether one is open; whether a change, undo, abandonment or addition was accepted since the last accepted rebuild, or else the making.
-pub record Log : Type 0 where
+-- What the calls and their answers tell of clicks: the tree at the last accepted settling, or else the making, the commits and undos accepted since then, the clicks that stand, the newest first, and whether one is open.
+pub record Clicks : Type 0 where
   pub settled : Forest
   pub commits : ℕ
   pub undos : ℕ
   pub standing : List Standing
   pub is-open : Bool
+
+-- What they tell since the last accepted rebuild, or else the making: whether a change, undo, abandonment or addition was accepted, how many patterns were added, and which places were touched, their labels written or put back.
+pub record Since : Type 0 where
   pub stale : Bool
+  pub added : ℕ
+  pub touched : List ℕ
+
+-- What an accepted call does to the clicks, at the tree before the call.
+abbrev pub clicked : Call → Forest → Clicks → Clicks
+clicked open-click m k = record { settled = k .settled; commits = k .commits; undos = k .undos; standing = record { opened-on = m; changed = [] } ∷ k .standing; is-open = true }
+clicked (change n p l) m k = record { settled = k .settled; commits = k .commits; undos = k .undos; standing = one-more p (k .standing); is-open = k .is-open }
+clicked (commit n) m k = record { settled = k .settled; commits = suc (k .commits); undos = k .undos; standing = k .standing; is-open = false }
+clicked (abandon n) m k = record { settled = k .settled; commits = k .commits; undos = k .undos; standing = drop 1 (k .standing); is-open = false }
+clicked undo m k = record { settled = k .settled; commits = k .commits; undos = suc (k .undos); standing = drop 1 (k .standing); is-open = k .is-open }
+clicked settle m k = record { settled = m; commits = 0; undos = 0; standing = []; is-open = k .is-open }
+clicked (add p) m k = k
+clicked rebuild m k = k
+clicked (ask q) m k = k
+
+-- What it does to what was done since the last rebuild, where ps are the places of the newest click.
+abbrev pub since : Call → List ℕ → Since → Since
+since open-click ps k = k
+since (change n p l) ps k = record { stale = true; added = k .added; touched = p ∷ k .touched }
+since (commit n) ps k = k
+since (abandon n) ps k = record { stale = true; added = k .added; touched = ps ++ k .touched }
+since undo ps k = record { stale = true; added = k .added; touched = ps ++ k .touched }
+since settle ps k = k
+since (add p) ps k = record { stale = true; added = suc (k .added); touched = k .touched }
+since rebuild ps k = record { stale = false; added = 0; touched = [] }
+since (ask q) ps k = k
+
+-- The log of a run.
+pub record Log : Type 0 where
+  pub clicks : Clicks
+  pub since-rebuild : Since
 
 -- What an accepted call does to the log, at the tree before the call.
 abbrev pub logged : Call → Forest → Log → Log
-logged open-click m k = record { settled = k .settled; commits = k .commits; undos = k .undos; standing = record { opened-on = m; changes = 0 } ∷ k .standing; is-open = true; stale = k .stale }
-logged (change n p l) m k = record { settled = k .settled; commits = k .commits; undos = k .undos; standing = one-more (k .standing); is-open = k .is-open; stale = true }
-logged (commit n) m k = record { settled = k .settled; commits = suc (k .commits); undos = k .undos; standing = k .standing; is-open = false; stale = k .stale }
-logged (abandon n) m k = record { settled = k .settled; commits = k .commits; undos = k .undos; standing = drop 1 (k .standing); is-open = false; stale = true }
-logged undo m k = record { settled = k .settled; commits = k .commits; undos = suc (k .undos); standing = drop 1 (k .standing); is-open = k .is-open; stale = true }
-logged settle m k = record { settled = m; commits = 0; undos = 0; standing = []; is-open = k .is-open; stale = k .stale }
-logged (add p) m k = record { settled = k .settled; commits = k .commits; undos = k .undos; standing = k .standing; is-open = k .is-open; stale = true }
-logged rebuild m k = record { settled = k .settled; commits = k .commits; undos = k .undos; standing = k .standing; is-open = k .is-open; stale = false }
-logged (ask q) m k = k
+logged c m k = record { clicks = clicked c m (k .clicks); since-rebuild = since c (getD (k .clicks .standing) 0 no-click .changed) (k .since-rebuild) }
 
 -- The log after some calls; a refused call is not in it.
 abbrev pub log : State → List Call → Log → Log
@@ -96,7 +123,7 @@ log s (c ∷ cs) k = log (after s c) cs (cond (accepts (answer s c)) (logged c (
 
 -- The log at the making over the tree m.
 abbrev pub new-log : Forest → Log
-new-log m = record { settled = m; commits = 0; undos = 0; standing = []; is-open = false; stale = false }
+new-log m = record { clicks = record { settled = m; commits = 0; undos = 0; standing = []; is-open = false }; since-rebuild = record { stale = false; added = 0; touched = [] } }
 
 -- The log of a run over the tree m.
 abbrev pub log-of : Forest → ℕ → List Call → Log
@@ -104,7 +131,7 @@ log-of m name calls = log (making m name) calls (new-log m)
 
 -- How many clicks can be undone: the accepted commits less the accepted undos since the last accepted settling, or else the making.
 abbrev pub undoable : Log → ℕ
-undoable k = k .commits - k .undos
+undoable k = k .clicks .commits - k .clicks .undos
 
 -- A rebuild is accepted.
 abbrev pub Closed : State → Type 0
@@ -143,17 +170,30 @@ pub record Rebuilt (s : State) : Type 0 where
 
 -- While no click is open, those that stand are those that can be undone: so many undos in a row are accepted, each gives back the tree that its click was opened on, the next is refused, and the tree is the settled one.
 pub record Undos-bring-back (s : State) (k : Log) : Type 0 where
-  pub counted : k .commits ≡ k .undos + length (k .standing)
+  pub counted : k .clicks .commits ≡ k .clicks .undos + length (k .clicks .standing)
   pub accepted : (n : ℕ) → n < undoable k → answer (run s (replicate n undo)) undo ≡ done
-  pub one-back : (n : ℕ) → n < undoable k → after (run s (replicate n undo)) undo .tree ≡ getD (k .standing) n no-click .opened-on
+  pub one-back : (n : ℕ) → n < undoable k → after (run s (replicate n undo)) undo .tree ≡ getD (k .clicks .standing) n no-click .opened-on
   pub then-none : answer (run s (replicate (undoable k) undo)) undo ≡ refused 8 6 0 0
-  pub all-back : run s (replicate (undoable k) undo) .tree ≡ k .settled
+  pub all-back : run s (replicate (undoable k) undo) .tree ≡ k .clicks .settled
 
 -- A question is refused with 2 exactly while a click is open, else with 3 exactly while stale, and else answered as right after a rebuild.
 pub record Questions (s : State) (k : Log) : Type 0 where
-  pub while-open : k .is-open ≡ true → (q : Question) → answer s (ask q) ≡ refused 2 6 0 0
-  pub while-stale : k .is-open ≡ false → k .stale ≡ true → (q : Question) → answer s (ask q) ≡ refused 3 6 0 0
-  pub else-anew : k .is-open ≡ false → k .stale ≡ false → (q : Question) → answer s (ask q) ≡ answer (after s rebuild) (ask q)
+  pub while-open : k .clicks .is-open ≡ true → (q : Question) → answer s (ask q) ≡ refused 2 6 0 0
+  pub while-stale : k .clicks .is-open ≡ false → k .since-rebuild .stale ≡ true → (q : Question) → answer s (ask q) ≡ refused 3 6 0 0
+  pub else-anew : k .clicks .is-open ≡ false → k .since-rebuild .stale ≡ false → (q : Question) → answer s (ask q) ≡ answer (after s rebuild) (ask q)
+
+-- One of some places is one of the n places from i on.
+abbrev pub one-inside : List ℕ → ℕ → ℕ → Bool
+one-inside [] i n = false
+one-inside (q ∷ qs) i n = (leb i q && ltb q (i + n)) || one-inside qs i n
+
+-- A rebuild tries the pattern j at the place i: the pattern was added, or a place of that subtree was touched, since the last one.
+abbrev pub is-tried : State → Log → ℕ → ℕ → Bool
+is-tried s k i j = leb (length (s .patterns)) (j + k .since-rebuild .added) || one-inside (k .since-rebuild .touched) i (size-at (s .tree) i)
+
+-- The steps of all that a rebuild tries.
+abbrev pub work : State → Log → ℕ
+work s k = total (λ j. total (λ i. cond (is-tried s k i j) (match-at (s .tree) (getD (s .patterns) j []) i .steps) 0) (length (s .tree))) (length (s .patterns))
 
 -- The receipt that a call is handed, if any.
 abbrev pub receipt-of : Call → Option ℕ
@@ -169,20 +209,20 @@ receipt-of (ask q) = None
 
 -- When the other calls are accepted, and when refused, by the log: with a receipt while a click is open, without one while none is, and within 64 clicks, 256 changes and 16 patterns.
 pub record Accepted (s : State) (k : Log) : Type 0 where
-  pub click-open : k .is-open ≡ true → (c : Call) → receipt-of c ≡ None → answer s c ≡ refused 2 6 0 0
-  pub wrong-click : (c : Call) (n : ℕ) → receipt-of c ≡ Some n → (k .is-open ≡ false) ⊎ (n ≡ s .name → ⊥) → answer s c ≡ refused 1 6 0 0
-  pub opening : k .is-open ≡ false → length (k .standing) < 64 → answer s open-click ≡ receipt (s .name)
-  pub no-65th-click : k .is-open ≡ false → 64 ≤ length (k .standing) → answer s open-click ≡ refused 7 6 0 0
-  pub changing : k .is-open ≡ true → (p l : ℕ) → p < length (s .tree) → changes-held (k .standing) < 256 → l < 32768 → answer s (change (s .name) p l) ≡ done
-  pub no-such-place : k .is-open ≡ true → (p l : ℕ) → length (s .tree) ≤ p → answer s (change (s .name) p l) ≡ refused 5 5 0 0
-  pub no-257th-change : k .is-open ≡ true → (p l : ℕ) → p < length (s .tree) → 256 ≤ changes-held (k .standing) → answer s (change (s .name) p l) ≡ refused 7 6 0 0
-  pub bad-label : k .is-open ≡ true → (p l : ℕ) → p < length (s .tree) → changes-held (k .standing) < 256 → 32768 ≤ l → answer s (change (s .name) p l) ≡ refused 10 5 0 0
-  pub committing : k .is-open ≡ true → answer s (commit (s .name)) ≡ done
-  pub abandoning : k .is-open ≡ true → answer s (abandon (s .name)) ≡ done
-  pub settling : k .is-open ≡ false → answer s settle ≡ number (undoable k)
-  pub adding : k .is-open ≡ false → length (s .patterns) < 16 → (p : List Element) → answer s (add p) ≡ number (length (s .patterns))
-  pub no-17th-pattern : k .is-open ≡ false → 16 ≤ length (s .patterns) → (p : List Element) → answer s (add p) ≡ refused 6 6 0 0
-  pub rebuilding : accepts (answer s rebuild) ≡ not (k .is-open)
+  pub click-open : k .clicks .is-open ≡ true → (c : Call) → receipt-of c ≡ None → answer s c ≡ refused 2 6 0 0
+  pub wrong-click : (c : Call) (n : ℕ) → receipt-of c ≡ Some n → (k .clicks .is-open ≡ false) ⊎ (n ≡ s .name → ⊥) → answer s c ≡ refused 1 6 0 0
+  pub opening : k .clicks .is-open ≡ false → length (k .clicks .standing) < 64 → answer s open-click ≡ receipt (s .name)
+  pub no-65th-click : k .clicks .is-open ≡ false → 64 ≤ length (k .clicks .standing) → answer s open-click ≡ refused 7 6 0 0
+  pub changing : k .clicks .is-open ≡ true → (p l : ℕ) → p < length (s .tree) → changes-held (k .clicks .standing) < 256 → l < 32768 → answer s (change (s .name) p l) ≡ done
+  pub no-such-place : k .clicks .is-open ≡ true → (p l : ℕ) → length (s .tree) ≤ p → answer s (change (s .name) p l) ≡ refused 5 5 0 0
+  pub no-257th-change : k .clicks .is-open ≡ true → (p l : ℕ) → p < length (s .tree) → 256 ≤ changes-held (k .clicks .standing) → answer s (change (s .name) p l) ≡ refused 7 6 0 0
+  pub bad-label : k .clicks .is-open ≡ true → (p l : ℕ) → p < length (s .tree) → changes-held (k .clicks .standing) < 256 → 32768 ≤ l → answer s (change (s .name) p l) ≡ refused 10 5 0 0
+  pub committing : k .clicks .is-open ≡ true → answer s (commit (s .name)) ≡ done
+  pub abandoning : k .clicks .is-open ≡ true → answer s (abandon (s .name)) ≡ done
+  pub settling : k .clicks .is-open ≡ false → answer s settle ≡ number (undoable k)
+  pub adding : k .clicks .is-open ≡ false → length (s .patterns) < 16 → (p : List Element) → answer s (add p) ≡ number (length (s .patterns))
+  pub no-17th-pattern : k .clicks .is-open ≡ false → 16 ≤ length (s .patterns) → (p : List Element) → answer s (add p) ≡ refused 6 6 0 0
+  pub rebuilding : k .clicks .is-open ≡ false → answer s rebuild ≡ steps (work s k)
 
 -- A call may alter labels: a change, an abandonment and an undo.
 abbrev pub alters : Call → Bool
@@ -213,8 +253,8 @@ pub record Every-state (s : State) (k : Log) : Type 0 where
   pub effects : Effects s
   pub questions : Questions s k
   pub what-is-found-is-right : Closed s → Rebuilt (after s rebuild)
-  pub undo-brings-back : k .is-open ≡ false → Undos-bring-back s k
-  pub abandon-brings-back : k .is-open ≡ true → after s (abandon (s .name)) .tree ≡ getD (k .standing) 0 no-click .opened-on
+  pub undo-brings-back : k .clicks .is-open ≡ false → Undos-bring-back s k
+  pub abandon-brings-back : k .clicks .is-open ≡ true → after s (abandon (s .name)) .tree ≡ getD (k .clicks .standing) 0 no-click .opened-on
 
 -- What holds of every two reached states: with equal trees and patterns, a rebuild makes them answer alike.
 pub record Every-two (s t : State) : Type 0 where

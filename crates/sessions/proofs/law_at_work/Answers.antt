@@ -23,4 +23,5 @@ returns c = record {
   found-right = record { played = played law-D (formed-gyzt, (tt, tt)) refl; reading = reading; plainly = ((tt, tt), tt); found-there = refl; its-bindings = refl };
   brought-back = record { one-to-undo = refl; undone = refl; then-none = refl; tree-is-back = refl; none-after-undo = refl; none-after-settling = refl; settled-on = refl; changed-first = λ e. let z : _≡_ {A = ℕ} 6 8 = ap (λ (m : Forest). label-at m 9) e in omega (arith, z); abandoned = refl };
   gone-stale = record { not-at-first = refl; not-by-a-refusal = refl; not-by-a-commit = refl; by-an-addition = refl; by-an-undo = refl; so-refused = refl; not-after-a-rebuild = refl; refused-leaves-all = refl };
+  tried-again = record { added-one = refl; everywhere = refl; touched-once = refl; above-it = refl; abandoned-too = refl };
 }
