@@ -6,7 +6,8 @@ use Rattle.patterns.specs.declared.row.Element.{Element}
 use Rattle.patterns.specs.Elements.{Well-formed}
 use Rattle.trees.specs.Forest.{Forest, Law}
 use Rattle.sessions.specs.Session.{State, Call, open-click, change, commit, abandon, undo, settle, add, rebuild, ask, Answer, making}
-use Rattle.sessions.specs.Runs.{after, answer, run, answers, new-log, Log, log-of, Reached, Every-state, Every-run, Played, Played-both}
+use Rattle.sessions.specs.Log.{after, answer, run, answers, new-log, Log, log-of}
+use Rattle.sessions.specs.Runs.{Reached, Every-state, Every-run, Played, Played-both}
 use Rattle.sessions.proofs.Turns.{none-there, effects}
 use Rattle.sessions.proofs.Back.{Follows, follows-making, follows-run, accepted, undos-bring-back, abandon-brings-back}
 use Rattle.sessions.proofs.Marking.{Steady, steady}

@@ -20,7 +20,8 @@ use Rattle.matching.specs.Laws.{moved-bound}
 use Rattle.patterns.specs.Elements.{Well-formed}
 use Rattle.matching.proofs.Elsewhere.{subtree-alone}
 use Rattle.sessions.specs.Session.{Change, State, Call, add, Answer, making, put, touch, any, subtree-touched, tries, matches, mark, tabulate, opened, places, noting, putting, extending}
-use Rattle.sessions.specs.Runs.{after, run, Reached}
+use Rattle.sessions.specs.Log.{after, run}
+use Rattle.sessions.specs.Runs.{Reached}
 use Rattle.sessions.proofs.Turns.{Went, stayed, asked, opens, changes, commits, abandons, undoes, settles, adds, rebuilds, went, rebuilt}
 
 -- a row of tests of which none holds

@@ -11,7 +11,7 @@ use Rattle.std.proofs.shelf.Tests.{cases-lt, both-ways, and-parts, and-cases, o
 use Rattle.std.specs.declared.option.Option.the-variants.{None}
 use Rattle.trees.specs.Forest.{Forest, Law, size-at}
 use Rattle.sessions.specs.Session.{State, rebuild, steps, Turn, any, subtree-touched, tries, result, total}
-use Rattle.sessions.specs.Runs.{answer, Log, one-inside, is-tried, work}
+use Rattle.sessions.specs.Log.{answer, Log, one-inside, is-tried, work}
 use Rattle.sessions.proofs.Back.{Follows, member}
 use Rattle.sessions.proofs.Marking.{Steady, untouched, not-touched}
 use Rattle.sessions.proofs.Findings.{rebuild-closed}

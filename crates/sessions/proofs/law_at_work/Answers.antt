@@ -22,7 +22,7 @@ returns c = record {
   two-runs = record { played = played-both law-S (formed-bb, (tt, (tt, (tt, (tt, (tt, tt)))))) refl law-T (tt, (tt, (tt, (formed-bb, tt)))) refl; same-trees = refl; same-patterns = refl; first-rebuilds = refl; second-rebuilds = refl; first-works = refl; second-works = refl; same-answer = refl };
   found-right = record { played = played law-D (formed-gyzt, (tt, tt)) refl; reading = reading; plainly = ((tt, tt), tt); found-there = refl; its-bindings = refl };
   brought-back = record { one-to-undo = refl; undone = refl; then-none = refl; tree-is-back = refl; none-after-undo = refl; none-after-settling = refl; settled-on = refl; changed-first = λ e. let z : _≡_ {A = ℕ} 6 8 = ap (λ (m : Forest). label-at m 9) e in omega (arith, z); abandoned = refl };
-  gone-stale = record { not-at-first = refl; not-by-a-refusal = refl; not-by-a-commit = refl; by-an-addition = refl; by-an-undo = refl; so-refused = refl; not-after-a-rebuild = refl; refused-leaves-all = refl };
+  gone-stale = record { not-at-first = refl; not-by-a-refusal = refl; not-by-a-commit = refl; so-answered = refl; by-an-addition = refl; by-an-undo = refl; so-refused = refl; not-after-a-rebuild = refl; refused-leaves-all = refl };
   tried-again = record { added-one = refl; everywhere = refl; touched-once = refl; above-it = refl; abandoned-too = refl };
   filled = record { clicks-stand = refl; one-undone = refl; opened-again = refl; changes-stand = refl; all-abandoned = refl; all-settled = refl };
 }
