@@ -1,8 +1,8 @@
--- Undos and abandonments bring back the trees of the log.
+-- The log follows a run: undos and abandonments bring back its trees, and calls are accepted and refused by its counts.
 use mathlib.Core.Path.{_≡_, refl, sym, ap, _∙_, subst}
 use mathlib.Core.Logic.{_⊎_, _≢_, ⊎-elim}
 use mathlib.Core.List.{List, [], _∷_, _++_}
-use mathlib.Core.Bool.{Bool, true, false, cond, not, _&&_, _||_}
+use mathlib.Core.Bool.{Bool, true, false, cond, not, _||_}
 use Prim.Native.Nat.{ℕ, zero, suc, _+_, _<_}
 use native.Mathlib.Omega.{arith}
 use lib.Dec.{eqb, ltb, leb}
@@ -12,10 +12,9 @@ use Rattle.std.proofs.shelf.Tests.{cases-eq, cond-both, cond-true, cond-false, 
 use Rattle.std.specs.Options.{isSome}
 use Rattle.std.specs.declared.option.Option.{Option}
 use Rattle.std.specs.declared.option.Option.the-variants.{Some, None}
-use Rattle.patterns.specs.declared.row.Element.{Element}
 use Rattle.trees.specs.Forest.{Forest, label-at, relabel}
 use Rattle.trees.proofs.Relabel.{relabel-goes-back}
-use Rattle.sessions.specs.Session.{Change, State, Call, open-click, change, commit, abandon, undo, settle, add, rebuild, ask, Answer, done, receipt, number, steps, refused, Turn, places, is-open, opened, wrong, total-changes, put, touch, making, undo-first, asking, rebuild-steps, turn}
+use Rattle.sessions.specs.Session.{Change, State, Call, open-click, change, commit, abandon, undo, settle, add, rebuild, ask, Answer, done, number, steps, refused, Turn, places, is-open, opened, wrong, total-changes, put, touch, making, undo-first, asking, rebuild-steps, turn}
 use Rattle.sessions.specs.Log.{after, answer, run, accepts, Standing, no-click, one-more, changes-held, Log, logged, log, new-log, undoable, work}
 use Rattle.sessions.specs.Runs.{Closed, Undos-bring-back, receipt-of, Accepted}
 use Rattle.sessions.proofs.Turns.{Went, stayed, asked, opens, changes, commits, abandons, undoes, settles, adds, rebuilds, went, rebuilt, none-there, some-there}
