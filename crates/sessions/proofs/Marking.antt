@@ -20,7 +20,8 @@ use Rattle.matching.specs.Laws.{moved-bound}
 use Rattle.patterns.specs.Elements.{Well-formed}
 use Rattle.matching.proofs.Elsewhere.{subtree-alone}
 use Rattle.sessions.specs.Session.{Change, State, Call, add, Answer, making, put, touch, any, subtree-touched, tries, matches, mark, tabulate, opened, places, noting, putting, extending}
-use Rattle.sessions.specs.Runs.{after, run, Reached}
+use Rattle.sessions.specs.Log.{after, run}
+use Rattle.sessions.specs.Runs.{Reached}
 use Rattle.sessions.proofs.Turns.{Went, stayed, asked, opens, changes, commits, abandons, undoes, settles, adds, rebuilds, went, rebuilt}
 
 -- a row of tests of which none holds
@@ -35,7 +36,7 @@ none-any [] h = refl
 none-any (true ∷ xs) h = h 0
 none-any (false ∷ xs) h = none-any xs (λ k. h (suc k))
 
-untouched : (u : List Bool) (i n : ℕ) → any (take n (drop i u)) ≡ false → (q : ℕ) → i ≤ q → q < i + n → getD u q false ≡ false
+pub untouched : (u : List Bool) (i n : ℕ) → any (take n (drop i u)) ≡ false → (q : ℕ) → i ≤ q → q < i + n → getD u q false ≡ false
 untouched u i n h q j k =
     let z : i + (q - i) ≡ q = omega arith in
     ap (λ (x : ℕ). getD u x false) (sym z) ∙ sym (getD-drop i u (q - i) false) ∙ sym (getD-take n (drop i u) (q - i) false (omega arith)) ∙ any-none (take n (drop i u)) h (q - i)

@@ -15,7 +15,9 @@ use Rattle.sessions.specs.declared.call.Call.the-variants.{Open, Change, Commi
 use Rattle.sessions.specs.declared.call.Note.{Note}
 use Rattle.sessions.specs.declared.call.Note.the-variants.{NoReceipt, Done, Opened, Number, Steps, Wrote, Found, Bound, Refused}
 use Rattle.sessions.specs.Session.{State, Call, open-click, change, commit, abandon, undo, settle, add, rebuild, ask, making, turn}
-use Rattle.sessions.specs.Runs.{run, Reached}
+use Rattle.sessions.specs.Log.{run}
+use Rattle.sessions.specs.Runs.{Reached, Played}
+use Rattle.sessions.proofs.Every.{every-run}
 use Rattle.sessions.specs.Plays.{Table, in-hand, with-receipt, made-of, played-by, played-one, note-answer, stands, one-made, made, noted}
 
 -- a note tells an answer without its slice
@@ -95,6 +97,11 @@ made-patterned s t cs (suc n) p i = ⊎-elim
     (one-formed (made-of (stands s t cs n .table) (getD cs n Open)) (made-formed (stands s t cs n .table) (getD cs n Open)) p)
     (either (add p) (made s t cs n) (one-made (made-of (stands s t cs n .table) (getD cs n Open))) i)
 
--- what is played from the making is reached
+-- what is played from the making is reached, and the law of every run holds of it
 pub reached-by : (m : Forest) (a : ℕ) (t : Table) (cs : List Asked) (n : ℕ) (s : State) → Law m → s ≡ stands (making m a) t cs n .state → Reached m a (made (making m a) t cs n) s
 reached-by m a t cs n s l e = record { lawful = l; patterned = made-patterned (making m a) t cs n; by-calls = made-run (making m a) t cs n ∙ sym e }
+
+pub played-by-calls : (m : Forest) (a : ℕ) (t : Table) (cs : List Asked) (n : ℕ) (s : State) → Law m → s ≡ stands (making m a) t cs n .state → Played m a (made (making m a) t cs n) s
+played-by-calls m a t cs n s l e =
+    let r = reached-by m a t cs n s l e in
+    record { by-calls = r .by-calls; law = every-run .one m a (made (making m a) t cs n) s r }

@@ -13,7 +13,8 @@ use Rattle.std.specs.declared.option.Option.the-variants.{Some, None}
 use Rattle.patterns.specs.declared.row.Element.{Element}
 use Rattle.trees.specs.Forest.{label-at, relabel}
 use Rattle.sessions.specs.Session.{Change, State, Question, Call, open-click, change, commit, abandon, undo, settle, add, rebuild, ask, Answer, done, receipt, number, steps, Turn, places, is-open, opened, wrong, total-changes, noting, putting, extending, marking, undo-first, up-to-date, rebuild-steps, asking, turn}
-use Rattle.sessions.specs.Runs.{after, answer, accepts}
+use Rattle.sessions.specs.Log.{accepts}
+use Rattle.sessions.specs.Runs.{alters, Effects}
 
 -- the state after a rebuild
 abbrev pub rebuilt : State → State
@@ -37,7 +38,7 @@ pub none-there : {A : Type 0} (o : Option A) → isSome o ≡ false → o ≡ No
 none-there None e = refl
 none-there (Some a) e = cc
 
-some-there : {A : Type 0} (o : Option (List A)) → isSome o ≡ true → o ≡ Some (valueOr o [])
+pub some-there : {A : Type 0} (o : Option (List A)) → isSome o ≡ true → o ≡ Some (valueOr o [])
 some-there None e = cc
 some-there (Some a) e = refl
 
@@ -89,14 +90,11 @@ refused-stays (settles h) e = absurd (both-ways true e refl)
 refused-stays (adds h i) e = absurd (both-ways true e refl)
 refused-stays (rebuilds h) e = absurd (both-ways true e refl)
 
-pub refused-leaves-all : (s : State) (c : Call) → accepts (answer s c) ≡ false → after s c ≡ s
-refused-leaves-all s c e = refused-stays (went s c) e
-
 -- what an accepted call does
 not-done : {X : Type 0} {a b : Answer} → accepts a ≡ false → accepts b ≡ true → a ≡ b → X
 not-done {a = a} h k e = absurd (both-ways (accepts a) h (ap accepts e ∙ k))
 
-pub name-stays : {s t : State} {c : Call} {a : Answer} → Went s c t a → t .name ≡ s .name
+name-stays : {s t : State} {c : Call} {a : Answer} → Went s c t a → t .name ≡ s .name
 name-stays (stayed h) = refl
 name-stays asked = refl
 name-stays (opens h i) = refl
@@ -108,7 +106,7 @@ name-stays (settles h) = refl
 name-stays (adds h i) = refl
 name-stays (rebuilds h) = refl
 
-pub patterns-stay : {s t : State} {c : Call} {a : Answer} → Went s c t a → ((p : List Element) → c ≡ add p → ⊥) → t .patterns ≡ s .patterns
+patterns-stay : {s t : State} {c : Call} {a : Answer} → Went s c t a → ((p : List Element) → c ≡ add p → ⊥) → t .patterns ≡ s .patterns
 patterns-stay (stayed h) f = refl
 patterns-stay asked f = refl
 patterns-stay (opens h i) f = refl
@@ -120,22 +118,34 @@ patterns-stay (settles h) f = refl
 patterns-stay (adds {p = p} h i) f = absurd (f p refl)
 patterns-stay (rebuilds h) f = refl
 
-pub opening-answers : {s t : State} {a : Answer} → Went s open-click t a → (n : ℕ) → a ≡ receipt n → n ≡ s .name
-opening-answers (stayed h) n e = not-done h refl e
-opening-answers (opens h i) n e = cc
-
-pub changing-puts : {s t : State} {n p l : ℕ} {a : Answer} → Went s (change n p l) t a → a ≡ done → (n ≡ s .name) × (p < length (s .tree)) × (t .tree ≡ relabel (s .tree) p l)
+changing-puts : {s t : State} {n p l : ℕ} {a : Answer} → Went s (change n p l) t a → a ≡ done → t .tree ≡ relabel (s .tree) p l
 changing-puts (stayed h) e = not-done h refl e
-changing-puts (changes g h i j k) e = (g, i, refl)
+changing-puts (changes g h i j k) e = refl
 
-pub committing-keeps : {s t : State} {n : ℕ} {a : Answer} → Went s (commit n) t a → a ≡ done → (n ≡ s .name) × (t .tree ≡ s .tree)
-committing-keeps (stayed h) e = not-done h refl e
-committing-keeps (commits g h) e = (g, refl)
+tree-stays : {s t : State} {c : Call} {a : Answer} → Went s c t a → alters c ≡ false → t .tree ≡ s .tree
+tree-stays (stayed h) e = refl
+tree-stays asked e = refl
+tree-stays (opens h i) e = refl
+tree-stays (changes g h i j k) e = absurd (both-ways true e refl)
+tree-stays (commits g h) e = refl
+tree-stays (abandons g h) e = absurd (both-ways true e refl)
+tree-stays (undoes h i) e = absurd (both-ways true e refl)
+tree-stays (settles h) e = refl
+tree-stays (adds h i) e = refl
+tree-stays (rebuilds h) e = refl
 
-pub abandoning-needs : {s t : State} {n : ℕ} {a : Answer} → Went s (abandon n) t a → a ≡ done → n ≡ s .name
-abandoning-needs (stayed h) e = not-done h refl e
-abandoning-needs (abandons g h) e = g
-
-pub adding-adds : {s t : State} {p : List Element} {a : Answer} → Went s (add p) t a → (n : ℕ) → a ≡ number n → (n ≡ length (s .patterns)) × (t .patterns ≡ s .patterns ++ (p ∷ []))
+adding-adds : {s t : State} {p : List Element} {a : Answer} → Went s (add p) t a → (n : ℕ) → a ≡ number n → t .patterns ≡ s .patterns ++ (p ∷ [])
 adding-adds (stayed h) n e = not-done h refl e
-adding-adds (adds h i) n e = (cc, refl)
+adding-adds (adds h i) n e = refl
+
+-- the effects of calls
+pub effects : (s : State) → Effects s
+effects s = record {
+  refused-leaves-all = λ c. refused-stays (went s c);
+  asking-leaves-all = λ q. refl;
+  name-stays = λ c. name-stays (went s c);
+  changing-puts = λ n p l. changing-puts (went s (change n p l));
+  others-keep-the-tree = λ c. tree-stays (went s c);
+  adding-adds = λ p. adding-adds (went s (add p));
+  others-keep-the-patterns = λ c. patterns-stay (went s c);
+}

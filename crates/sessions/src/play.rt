@@ -8,7 +8,7 @@ ghost use Prim.Native.Nat.{ℕ, min, suc, _≤_, _<_};
 ghost use lib.ListN.{length, getD};
 ghost use Rattle.std.specs.Results.{Cases};
 ghost use Rattle.sessions.specs.Session.{making, refused as refused-by};
-ghost use Rattle.sessions.specs.Runs.{Reached};
+ghost use Rattle.sessions.specs.Runs.{Played};
 ghost use Rattle.sessions.specs.Plays.{first-table, table-of, played-one, note-answer, stands, made, noted};
 ghost use Rattle.sessions.specs.View.{view, refusal-answer};
 use crate::call::Call;
@@ -81,7 +81,7 @@ fn play_on<T: ChangeableTree>(
 
 /// Makes a session over a tree, and makes calls of it one after the other, with the receipts of its own clicks and a foreign
 /// one; notes each answer, as far as there is room for notes.
-pub(crate) fn play<T: ChangeableTree>(
+pub fn play<T: ChangeableTree>(
     heap: Global,
     tree: T,
     name: u32,
@@ -90,7 +90,7 @@ pub(crate) fn play<T: ChangeableTree>(
     calls: &[Call],
     notes: &mut [Note],
 ) -> Result<(Session<T>, Hands), (T, Receipt, Refusal)>
-    ensures reached { λ r. ⌜ Cases r (λ p. Reached (T·Meant .meaning tree) name (made (making (T·Meant .meaning tree) name) (first-table (foreign .session) (now (out .entry))) (now (calls .entry)) (min (length (now (calls .entry))) (length (now (notes .entry))))) (view (T·Meant .meaning) (p .0))) (λ e. (e .0 ≡ tree) × (e .1 ≡ foreign) × (refusal-answer (e .2) ≡ refused-by 27 6 0 0)) ⌝ }
+    ensures played { λ r. ⌜ Cases r (λ p. Played (T·Meant .meaning tree) name (made (making (T·Meant .meaning tree) name) (first-table (foreign .session) (now (out .entry))) (now (calls .entry)) (min (length (now (calls .entry))) (length (now (notes .entry))))) (view (T·Meant .meaning) (p .0))) (λ e. (e .0 ≡ tree) × (e .1 ≡ foreign) × (refusal-answer (e .2) ≡ refused-by 27 6 0 0)) ⌝ }
     ensures answers { λ r. ⌜ Cases r (λ _. (k : ℕ) → k < min (length (now (calls .entry))) (length (now (notes .entry))) → note-answer [] (getD (now (notes .exit)) k Note.NoReceipt) ≡ noted (stands (making (T·Meant .meaning tree) name) (first-table (foreign .session) (now (out .entry))) (now (calls .entry)) (suc k) .answer)) (λ _. (now (out .exit) ≡ now (out .entry)) × (now (notes .exit) ≡ now (notes .entry))) ⌝ }
 {
     match Session::new(heap, tree, name) {

@@ -92,7 +92,7 @@ impl<T: ChangeableTree> Session<T> {
     }
 
     /// Writes all findings, by place and then by pattern, to the start of a slice, and answers how many there are.
-    pub(crate) fn findings(&self, out: &mut [(usize, usize)]) -> Result<usize, Refusal>
+    pub fn findings(&self, out: &mut [(usize, usize)]) -> Result<usize, Refusal>
         ensures turns { λ r. ⌜ (view (T·Meant .meaning) (now (self .entry)), wrote-answer (now (out .exit)) r) ≡ turn (view (T·Meant .meaning) (now (self .entry))) (ask (all-findings (now (out .entry)))) ⌝ }
         ensures same { λ r. ⌜ Cases r (λ _. Unit {0}) (λ _. now (out .exit) ≡ now (out .entry)) ⌝ }
     {
@@ -111,7 +111,7 @@ impl<T: ChangeableTree> Session<T> {
     }
 
     /// The first finding: the lowest place, and there the lowest pattern.
-    pub(crate) fn first_finding(&self) -> Result<(usize, usize), Refusal>
+    pub fn first_finding(&self) -> Result<(usize, usize), Refusal>
         ensures { λ r. ⌜ (view (T·Meant .meaning) (now (self .entry)), found-answer r) ≡ turn (view (T·Meant .meaning) (now (self .entry))) (ask first-finding) ⌝ }
     {
         if self.is_open() {
@@ -127,7 +127,7 @@ impl<T: ChangeableTree> Session<T> {
     }
 
     /// The bindings of a pattern at a place, and the steps that the match took.
-    pub(crate) fn bindings(&self, pattern: usize, place: usize) -> Result<Match, Refusal>
+    pub fn bindings(&self, pattern: usize, place: usize) -> Result<Match, Refusal>
         ensures { λ r. ⌜ (view (T·Meant .meaning) (now (self .entry)), bound-answer r) ≡ turn (view (T·Meant .meaning) (now (self .entry))) (ask (to-bind pattern place)) ⌝ }
     {
         if self.is_open() {

@@ -50,7 +50,7 @@ impl<T: ChangeableTree> Session<T> {
     }
 
     /// Opens a click, and gives its receipt.
-    pub(crate) fn open(&mut self) -> Result<Receipt, Refusal>
+    pub fn open(&mut self) -> Result<Receipt, Refusal>
         ensures turns { λ r. ⌜ (view (T·Meant .meaning) (now (self .exit)), receipt-answer r) ≡ turn (view (T·Meant .meaning) (now (self .entry))) open-click ⌝ }
         ensures same { λ r. ⌜ Cases r (λ _. Unit {0}) (λ _. now (self .exit) ≡ now (self .entry)) ⌝ }
     {
@@ -65,12 +65,7 @@ impl<T: ChangeableTree> Session<T> {
     }
 
     /// Puts a label at a place, and notes the label that stood there.
-    pub(crate) fn change(
-        &mut self,
-        receipt: &Receipt,
-        place: usize,
-        label: u16,
-    ) -> Result<(), Refusal>
+    pub fn change(&mut self, receipt: &Receipt, place: usize, label: u16) -> Result<(), Refusal>
         ensures turns { λ r. ⌜ (view (T·Meant .meaning) (now (self .exit)), done-answer r) ≡ turn (view (T·Meant .meaning) (now (self .entry))) (to-change (now (receipt .entry) .session) place label) ⌝ }
         ensures same { λ r. ⌜ Cases r (λ _. Unit {0}) (λ _. now (self .exit) ≡ now (self .entry)) ⌝ }
     {
@@ -92,7 +87,7 @@ impl<T: ChangeableTree> Session<T> {
     }
 
     /// Ends the open click, which can be undone from now on. A refusal gives the receipt back.
-    pub(crate) fn commit(&mut self, receipt: Receipt) -> Result<(), (Receipt, Refusal)>
+    pub fn commit(&mut self, receipt: Receipt) -> Result<(), (Receipt, Refusal)>
         ensures turns { λ r. ⌜ (view (T·Meant .meaning) (now (self .exit)), spent-answer r) ≡ turn (view (T·Meant .meaning) (now (self .entry))) (to-commit (receipt .session)) ⌝ }
         ensures same { λ r. ⌜ Cases r (λ _. Unit {0}) (λ e. (now (self .exit) ≡ now (self .entry)) × (e .0 ≡ receipt)) ⌝ }
     {
@@ -105,7 +100,7 @@ impl<T: ChangeableTree> Session<T> {
     }
 
     /// Puts the labels of the open click back, the last first, and forgets the click. A refusal gives the receipt back.
-    pub(crate) fn abandon(&mut self, receipt: Receipt) -> Result<(), (Receipt, Refusal)>
+    pub fn abandon(&mut self, receipt: Receipt) -> Result<(), (Receipt, Refusal)>
         ensures turns { λ r. ⌜ (view (T·Meant .meaning) (now (self .exit)), spent-answer r) ≡ turn (view (T·Meant .meaning) (now (self .entry))) (to-abandon (receipt .session)) ⌝ }
         ensures same { λ r. ⌜ Cases r (λ _. Unit {0}) (λ e. (now (self .exit) ≡ now (self .entry)) × (e .0 ≡ receipt)) ⌝ }
     {
@@ -118,7 +113,7 @@ impl<T: ChangeableTree> Session<T> {
     }
 
     /// Puts the labels of the last committed click back, the last first, and forgets the click.
-    pub(crate) fn undo(&mut self) -> Result<(), Refusal>
+    pub fn undo(&mut self) -> Result<(), Refusal>
         ensures turns { λ r. ⌜ (view (T·Meant .meaning) (now (self .exit)), done-answer r) ≡ turn (view (T·Meant .meaning) (now (self .entry))) to-undo ⌝ }
         ensures same { λ r. ⌜ Cases r (λ _. Unit {0}) (λ _. now (self .exit) ≡ now (self .entry)) ⌝ }
     {
@@ -133,7 +128,7 @@ impl<T: ChangeableTree> Session<T> {
     }
 
     /// Forgets all clicks, and answers how many there were.
-    pub(crate) fn settle(&mut self) -> Result<usize, Refusal>
+    pub fn settle(&mut self) -> Result<usize, Refusal>
         ensures turns { λ r. ⌜ (view (T·Meant .meaning) (now (self .exit)), number-answer r) ≡ turn (view (T·Meant .meaning) (now (self .entry))) to-settle ⌝ }
         ensures same { λ r. ⌜ Cases r (λ _. Unit {0}) (λ _. now (self .exit) ≡ now (self .entry)) ⌝ }
     {
@@ -146,7 +141,7 @@ impl<T: ChangeableTree> Session<T> {
     }
 
     /// Adds a pattern behind the others, and answers its number.
-    pub(crate) fn add(&mut self, pattern: &Pattern) -> Result<usize, Refusal>
+    pub fn add(&mut self, pattern: &Pattern) -> Result<usize, Refusal>
         ensures turns { λ r. ⌜ (view (T·Meant .meaning) (now (self .exit)), number-answer r) ≡ turn (view (T·Meant .meaning) (now (self .entry))) (to-add (elements-of (now (pattern .entry) .row))) ⌝ }
         ensures same { λ r. ⌜ Cases r (λ _. Unit {0}) (λ _. now (self .exit) ≡ now (self .entry)) ⌝ }
     {

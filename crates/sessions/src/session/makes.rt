@@ -44,7 +44,7 @@ fn parts(heap: Global, places: usize) -> Result<(Shelf, Journal, Marks), AllocEr
 impl<T: ChangeableTree> Session<T> {
     /// A session over a tree, under a name, with no pattern and an empty journal. All its room is taken here; where there is
     /// none, the tree comes back.
-    pub(crate) fn new(heap: Global, tree: T, name: u32) -> Result<Session<T>, (T, Refusal)>
+    pub fn new(heap: Global, tree: T, name: u32) -> Result<Session<T>, (T, Refusal)>
         ensures { λ r. ⌜ Cases r (λ s. view (T·Meant .meaning) s ≡ making (T·Meant .meaning tree) name) (λ e. (e .0 ≡ tree) × (refusal-answer (e .1) ≡ refused 27 6 0 0)) ⌝ }
     {
         let places = tree.places();
@@ -61,14 +61,14 @@ impl<T: ChangeableTree> Session<T> {
     }
 
     /// The tree.
-    pub(crate) fn tree(&self) -> &T
+    pub fn tree(&self) -> &T
         ensures { λ r. ⌜ now r ≡ now (self .entry) .tree ⌝ }
     {
         &self.tree
     }
 
     /// Ends the session, and gives the tree back.
-    pub(crate) fn end(self) -> T
+    pub fn end(self) -> T
         ensures { λ r. ⌜ r ≡ self .tree ⌝ }
     {
         let Session {

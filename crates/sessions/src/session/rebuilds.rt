@@ -12,7 +12,7 @@ use trees::ChangeableTree;
 impl<T: ChangeableTree> Session<T> {
     /// Tries each pattern wherever it is new or the subtree was touched since the last rebuild, marks where it matches, and
     /// answers the sum of the steps.
-    pub(crate) fn rebuild(&mut self) -> Result<u32, Refusal>
+    pub fn rebuild(&mut self) -> Result<u32, Refusal>
         ensures turns { λ r. ⌜ (view (T·Meant .meaning) (now (self .exit)), steps-answer r) ≡ turn (view (T·Meant .meaning) (now (self .entry))) to-rebuild ⌝ }
         ensures same { λ r. ⌜ Cases r (λ _. Unit {0}) (λ _. now (self .exit) ≡ now (self .entry)) ⌝ }
     {

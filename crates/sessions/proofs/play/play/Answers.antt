@@ -6,7 +6,7 @@ use Rattle.trees.specs.Forest.{Forest}
 use Rattle.sessions.specs.Session.{State}
 use Rattle.sessions.specs.Plays.{Table, first-table, stands, noted}
 use Rattle.sessions.specs.View.{view}
-use Rattle.sessions.proofs.Playing.{reached-by}
+use Rattle.sessions.proofs.Playing.{played-by-calls}
 use Rattle.sessions.proofs.play.play.Needs as need
 
 pub returns-in-Ok : need.returns-in-Ok
@@ -15,6 +15,6 @@ returns-in-Ok g c =
     let t : Table = first-table (c .args .foreign .session) (c .args .out .now) in
     let n : ℕ = min (length (c .args .calls .now)) (length (c .args .notes .now)) in
     record {
-      reached = reached-by m (c .args .name) t (c .args .calls .now) n (view (g .T·Meant .meaning) (c .play-on-hands .last .session)) (g .T·Meant·met .lawful (c .args .tree)) (c .play-on-hands .ensures .states ∙ ap (λ (s : State). stands s t (c .args .calls .now) n .state) (c .in-Ok .ensures tt));
+      played = played-by-calls m (c .args .name) t (c .args .calls .now) n (view (g .T·Meant .meaning) (c .play-on-hands .last .session)) (g .T·Meant·met .lawful (c .args .tree)) (c .play-on-hands .ensures .states ∙ ap (λ (s : State). stands s t (c .args .calls .now) n .state) (c .in-Ok .ensures tt));
       answers = λ k h. c .play-on-hands .ensures .answers k h ∙ ap (λ (s : State). noted (stands s t (c .args .calls .now) (suc k) .answer)) (c .in-Ok .ensures tt);
     }
