@@ -18,7 +18,7 @@ use Rattle.sessions.specs.Session.{State, Call, open-click, change, commit, ab
 use Rattle.sessions.specs.Log.{run}
 use Rattle.sessions.specs.Runs.{Reached, Played}
 use Rattle.sessions.proofs.Every.{every-run}
-use Rattle.sessions.specs.Plays.{Table, in-hand, with-receipt, made-of, played-by, played-one, note-answer, stands, one-made, made, noted}
+use Rattle.sessions.specs.Plays.{Table, in-hand, with-receipt, made-of, played-by, note-answer, stands, one-made, made, noted}
 
 -- a note tells an answer without its slice
 pub in-short : (out : List (ℕ × ℕ)) (x : Note) → note-answer [] x ≡ noted (note-answer out x)

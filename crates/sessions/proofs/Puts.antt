@@ -27,18 +27,9 @@ err-in false x e h = (refl, cc)
 pub label-inside : (m : Forest) (p v : ℕ) → Ok v ≡ label-answer m p → (p < length m) × (v ≡ label-at m p)
 label-inside m p v h = let k = ok-in (ltb p (length m)) (label-at m p) v h in (ltb-true p (length m) (k .0), k .1)
 
-pub label-outside : (m : Forest) (p : ℕ) (e : Refusal) → Err e ≡ label-answer m p → (length m ≤ p) × (e ≡ no-such-place)
-label-outside m p e h = let k = err-in (ltb p (length m)) (label-at m p) e h in (ltb-false p (length m) (k .0), k .1)
-
 -- a size that was refused
 pub size-outside : (m : Forest) (p : ℕ) (e : Refusal) → Err e ≡ size-answer m p → length m ≤ p
 size-outside m p e h = ltb-false p (length m) (err-in (ltb p (length m)) (size-at m p) e h .0)
-
-ok-put : (b w : Bool) (x : Unit {0}) → _≡_ {A = Result (Unit {0}) Refusal} (Ok x) (cond b (cond w (Ok tt) (Err label-too-large)) (Err no-such-place)) → (b ≡ true) × (w ≡ true)
-ok-put true true x h = (refl, refl)
-ok-put true false x h = let z : _≡_ {A = ℕ} 0 1 = cc in absurd (omega arith)
-ok-put false true x h = let z : _≡_ {A = ℕ} 0 1 = cc in absurd (omega arith)
-ok-put false false x h = let z : _≡_ {A = ℕ} 0 1 = cc in absurd (omega arith)
 
 err-put : (b w : Bool) (e : Refusal) → b ≡ true → _≡_ {A = Result (Unit {0}) Refusal} (Err e) (cond b (cond w (Ok tt) (Err label-too-large)) (Err no-such-place)) → (w ≡ false) × (e ≡ label-too-large)
 err-put true true e t h = let z : _≡_ {A = ℕ} 0 1 = cc in absurd (omega arith)
@@ -51,11 +42,6 @@ pub put-wide : (m : Forest) (p l : ℕ) (e : Refusal) → p < length m → Err e
 put-wide m p l e h a =
     let k = err-put (ltb p (length m)) (ltb l 32768) e (lt-ltb p (length m) h) a in
     (ltb-false l 32768 (k .0), k .1)
-
-pub put-ok : (m : Forest) (p l : ℕ) (x : Unit {0}) → Ok x ≡ put-answer m p l → (p < length m) × (l < 32768)
-put-ok m p l x a =
-    let k = ok-put (ltb p (length m)) (ltb l 32768) x a in
-    (ltb-true p (length m) (k .0), ltb-true l 32768 (k .1))
 
 -- a label that is put: at a place outside the tree it leaves the tree, and so does the definition
 pub put-kept : {T : Type 0} (f : T → Forest) (t u : T) (p l : ℕ) (r : Result (Unit {0}) Refusal) → r ≡ put-answer (f t) p l → Cases r (λ _. f u ≡ relabel (f t) p l) (λ _. u ≡ t) → l < 32768 → f u ≡ relabel (f t) p l

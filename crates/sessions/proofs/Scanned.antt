@@ -1,24 +1,17 @@
 -- Findings counted, written one by one, and found by a scan.
 use mathlib.Core.Path.{_≡_, refl, sym, ap, _∙_}
-use mathlib.Core.Bool.{Bool, true, false, cond}
+use mathlib.Core.Bool.{true, false, cond}
 use mathlib.Core.List.{List, [], _∷_, _++_}
 use mathlib.Core.Logic.{⊎-elim}
 use Prim.Native.Nat.{ℕ, zero, suc, _+_, _*_, _<_, _≤_}
 use native.Mathlib.Omega.{arith}
 use native.Mathlib.Numerals.{add-one}
-use lib.Dec.{leb, ltb}
-use lib.ListN.{length, take, drop, getD, set, length-append, length-take, length-drop}
-use Rattle.std.proofs.shelf.Tests.{cases-lt, cases-bool, cond-true, cond-false, both-ways, lt-ltb, le-ltb, le-leb, lt-leb}
+use lib.ListN.{length, take, drop, getD, set, length-append, length-take}
+use Rattle.std.proofs.shelf.Tests.{cases-lt, cases-bool, cond-true, cond-false}
 use Rattle.std.proofs.shelf.Lists.{set-at, drop-more, append-assoc, take-at, drop-drop, drop-at}
-use Rattle.std.specs.declared.option.Option.{Option}
 use Rattle.std.specs.declared.option.Option.the-variants.{Some, None}
-use Rattle.patterns.specs.declared.row.Element.{Element}
-use Rattle.trees.specs.Forest.{Forest}
-use Rattle.matching.specs.Rules.{Bindings, match-at}
-use Rattle.matching.specs.Answers.{answered-by, match-answer}
-use Rattle.sessions.specs.Session.{State, Question, Answer, found, refused, is-open, mark, marked-at, marked, all-found, finding-first, bound-or-none, answering, asking}
+use Rattle.sessions.specs.Session.{State, Question, found, refused, is-open, mark, marked-at, marked, all-found, finding-first, answering, asking}
 use Rattle.sessions.specs.Firsts.{None-below, No-place-below, Is-first, First}
-use Rattle.sessions.specs.View.{bound-answer}
 
 -- a question that is answered
 pub asked : (s : State) (q : Question) → is-open s ≡ false → s .look .stale ≡ false → answering s q ≡ asking s q
@@ -133,14 +126,3 @@ written-place o out fs gs n r e q w =
     let front : take n o ≡ fs = ap (take n) w ∙ take-at fs (drop n out) n (sym e) in
     let back : drop r o ≡ drop r out = ap (λ k. drop k o) q ∙ sym (drop-drop (length gs) n o) ∙ ap (drop (length gs)) (ap (drop n) w ∙ drop-at fs (drop n out) n (sym e)) ∙ drop-drop (length gs) n out ∙ ap (λ k. drop k out) (sym q) in
     (λ i. front i ++ (gs ++ back i)) ∙ sym (append-assoc fs gs (drop r out))
-
--- the bindings of a match are answered as a question has it
-pub bound-is : (b : Option Bindings) (n : ℕ) → bound-answer (answered-by b n) ≡ bound-or-none b n
-bound-is None n = refl
-bound-is (Some x) n = refl
-
-pub match-is : (m : Forest) (es : List Element) (p : ℕ) → bound-answer (match-answer m es p) ≡ cond (leb (length m) p) (refused 5 5 0 0) (bound-or-none (match-at m es p .bound) (match-at m es p .steps))
-match-is m es p = ⊎-elim
-    (λ (h : p < length m). ap bound-answer (cond-true (ltb p (length m)) _ _ (lt-ltb p (length m) h)) ∙ bound-is (match-at m es p .bound) (match-at m es p .steps) ∙ sym (cond-false (leb (length m) p) _ _ (lt-leb (length m) p h)))
-    (λ (h : length m ≤ p). ap bound-answer (cond-false (ltb p (length m)) _ _ (le-ltb p (length m) h)) ∙ sym (cond-true (leb (length m) p) _ _ (le-leb (length m) p h)))
-    (cases-lt p (length m))

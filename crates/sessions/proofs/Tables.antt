@@ -1,21 +1,16 @@
 -- The tables of a journal, where a click begins, a change is noted or taken back, and a click is forgotten.
 use mathlib.Core.Path.{_≡_, refl, sym, ap, _∙_}
-use mathlib.Core.Bool.{Bool, true, false, _&&_}
+use mathlib.Core.Bool.{true}
 use mathlib.Core.List.{List, [], _∷_, _++_}
-use Prim.Native.Nat.{ℕ, zero, suc, _+_, _-_, _<_, _≤_, min}
+use Prim.Native.Nat.{ℕ, zero, suc, _+_, _-_, _<_, _≤_}
 use native.Mathlib.Omega.{arith}
-use native.Mathlib.Nat.{zero-add, add-assoc}
 use native.Mathlib.Numerals.{add-one}
 use lib.Dec.{ltb}
-use lib.ListN.{take, drop, getD, set, length, length-take, length-drop, length-append}
+use lib.ListN.{take, drop, getD, set, length, length-take, length-drop}
 use Rattle.std.specs.shelf.Lists.{sumBy}
-use Rattle.std.specs.Options.{isSome, Cases}
-use Rattle.std.specs.Vec.{listOf}
-use Rattle.std.specs.declared.option.Option.{Option}
-use Rattle.std.specs.declared.option.Option.the-variants.{Some, None}
 use Rattle.std.proofs.shelf.Lists.{take-more, take-all, set-split, drop-all, length-push}
-use Rattle.std.proofs.shelf.Sums.{sumBy-push, sumBy-cons, sumBy-set, getD-le-sumBy}
-use Rattle.std.proofs.shelf.Tests.{and-parts, and-from, lt-ltb, ltb-true, both-ways}
+use Rattle.std.proofs.shelf.Sums.{sumBy-push, sumBy-cons}
+use Rattle.std.proofs.shelf.Tests.{and-parts, and-from, lt-ltb, ltb-true}
 use Rattle.sessions.specs.declared.entry.Click.{Click}
 use Rattle.sessions.specs.declared.entry.Replaced.{Replaced}
 use Rattle.sessions.specs.Session.{Change, total-changes}

@@ -3,19 +3,19 @@ use mathlib.Core.Path.{_≡_, refl, sym, ap, subst, _∙_}
 use mathlib.Core.Bool.{Bool, true, false, cond, _&&_, _||_}
 use mathlib.Core.List.{List, [], _∷_, _++_}
 use mathlib.Core.Logic.{⊎-elim}
-use Prim.Native.Nat.{ℕ, zero, suc, _+_, _-_, _*_, _<_, _≤_}
+use Prim.Native.Nat.{ℕ, zero, suc, _+_, _-_, _<_, _≤_}
 use native.Mathlib.Omega.{arith}
 use native.Mathlib.Numerals.{add-one, one-add}
 use lib.Dec.{ltb, leb}
 use lib.ListN.{length, take, drop, getD, set, replicate, length-set}
 use Rattle.std.proofs.shelf.Tests.{cases-lt, cases-eq, cases-bool, cond-true, cond-false, cond-both, both-ways, lt-ltb, le-ltb, and-left}
-use Rattle.std.proofs.shelf.Lists.{getD-take, getD-drop, getD-set-same, getD-set-other, getD-at, getD-past, set-at, drop-more, drop-all, append-assoc, append-nil, replicate-more, length-replicate, ext-getD}
+use Rattle.std.proofs.shelf.Lists.{getD-take, getD-drop, getD-set-same, getD-set-other, getD-at, getD-past, set-at, drop-more, drop-all, append-assoc, append-nil, replicate-more, ext-getD}
 use Rattle.std.specs.Options.{isSome}
 use Rattle.std.specs.Results.{isOk}
 use Rattle.std.specs.declared.option.Option.{Option}
 use Rattle.std.specs.declared.option.Option.the-variants.{Some, None}
 use Rattle.std.specs.declared.result.Result.{Result}
-use Rattle.std.specs.declared.result.Result.the-variants.{Ok, Err}
+use Rattle.std.specs.declared.result.Result.the-variants.{Err}
 use Rattle.refusals.specs.declared.Refusal.{Refusal}
 use Rattle.patterns.specs.declared.row.Element.{Element}
 use Rattle.trees.specs.Forest.{Forest, Law, Node, size-at, no-node}
@@ -24,8 +24,8 @@ use Rattle.trees.proofs.Windows.{sound, fits-whole}
 use Rattle.matching.specs.declared.found.Match.{Match}
 use Rattle.matching.specs.Rules.{Bindings, Outcome, fails, choose, by-rule, walk, match-at}
 use Rattle.matching.specs.Answers.{answered-by, match-answer, steps-of}
-use Rattle.sessions.specs.Session.{State, Marks, any, tabulate, total, tries, subtree-touched, rebuilt-marks, rebuild-steps}
-use Rattle.sessions.specs.Tries.{seen, spread-out, Nearest, within, tried-row, tried-rows, tried-steps, all-rows, all-steps}
+use Rattle.sessions.specs.Session.{Marks, any, tabulate, total, tries, subtree-touched, rebuilt-marks, rebuild-steps}
+use Rattle.sessions.specs.Tries.{seen, spread-out, Nearest, within, tried-row, all-rows, all-steps}
 use Rattle.sessions.proofs.Marking.{not-touched, length-tabulate, getD-tabulate}
 
 -- a test that holds in a row

@@ -1,9 +1,9 @@
 -- Bindings leave the player what it has.
-use mathlib.Core.Path.{_≡_, ap, sym, _∙_}
+use mathlib.Core.Path.{ap, sym, _∙_}
 use Rattle.std.specs.declared.option.Option.{Option}
 use Rattle.sessions.specs.declared.call.Call.{Call}
 use Rattle.sessions.specs.Session.{State, Answer}
-use Rattle.sessions.specs.Plays.{Played-one, Table, table-of, played-one}
+use Rattle.sessions.specs.Plays.{Table, table-of, played-one}
 use Rattle.sessions.specs.View.{view}
 use Rattle.sessions.proofs.play.act.Needs as need
 

@@ -1,5 +1,5 @@
 -- The session is the one that was made, and then played on.
-use mathlib.Core.Path.{_≡_, ap, _∙_}
+use mathlib.Core.Path.{ap, _∙_}
 use Prim.Native.Nat.{ℕ, suc, min}
 use lib.ListN.{length}
 use Rattle.trees.specs.Forest.{Forest}

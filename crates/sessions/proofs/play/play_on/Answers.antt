@@ -1,18 +1,16 @@
 -- One call more, and its answer.
 use mathlib.Core.Path.{_≡_, refl, sym, ap, _∙_}
 use mathlib.Core.List.{List, []}
-use Prim.Native.Nat.{ℕ, suc, min, _+_, _<_, _≤_}
+use Prim.Native.Nat.{ℕ, suc, min, _+_, _<_}
 use native.Mathlib.Omega.{arith}
 use native.Mathlib.Numerals.{add-one}
 use borrow.Author.Count.{below-more}
-use lib.ListN.{length, getD, set}
+use lib.ListN.{length, getD}
 use Rattle.std.proofs.shelf.Lists.{getD-read, getD-set-same, getD-set-other}
-use Rattle.std.specs.declared.option.Option.{Option}
 use Rattle.sessions.specs.declared.call.Call.{Call}
 use Rattle.sessions.specs.declared.call.Call.the-variants.{Open}
-use Rattle.sessions.specs.declared.call.Note.{Note}
 use Rattle.sessions.specs.declared.call.Note.the-variants.{NoReceipt}
-use Rattle.sessions.specs.Session.{State, Answer}
+use Rattle.sessions.specs.Session.{State}
 use Rattle.sessions.specs.Plays.{Table, Played-one, table-of, played-one, note-answer, stands, noted}
 use Rattle.sessions.specs.View.{view}
 use Rattle.sessions.proofs.Playing.{in-short}

@@ -1,5 +1,5 @@
 -- The counts of the clicks add up to the changes.
-use mathlib.Core.Path.{_≡_, sym, _∙_}
+use mathlib.Core.Path.{sym, _∙_}
 use Rattle.std.specs.Of.Vec.{vec-items}
 use Rattle.sessions.proofs.Tables.{total-held}
 use Rattle.sessions.proofs.journal.Journal.changes.Needs as need

@@ -1,5 +1,5 @@
 -- Each entry is a click.
-use mathlib.Core.Path.{_≡_, sym, _∙_}
+use mathlib.Core.Path.{sym, _∙_}
 use Rattle.std.specs.Of.Vec.{vec-items}
 use Rattle.sessions.proofs.Tables.{length-held}
 use Rattle.sessions.proofs.journal.Journal.clicks.Needs as need

@@ -2,7 +2,7 @@
 use mathlib.Core.Path.{_≡_, refl, ap, sym, _∙_}
 use mathlib.Core.Bool.{true, false}
 use mathlib.Core.List.{List, [], _∷_, _++_}
-use Prim.Native.Nat.{ℕ, _+_, _-_, _<_, _≤_}
+use Prim.Native.Nat.{ℕ, _+_, _-_, _<_}
 use native.Mathlib.Omega.{arith}
 use borrow.Author.Needs.{needs}
 use lib.ListN.{length, getD, set, drop, length-set}
@@ -17,7 +17,6 @@ use Rattle.std.specs.shelf.Lists.{sumBy}
 use Rattle.std.specs.Of.Vec.{vec-items, vec-len}
 use Rattle.sessions.specs.declared.entry.Click.{Click}
 use Rattle.sessions.specs.declared.entry.Replaced.{Replaced}
-use Rattle.sessions.specs.Session.{Change}
 use Rattle.sessions.specs.Held.{held, change-of, all-labels}
 use Rattle.sessions.proofs.Tables.{of, length-held, held-empty, held-taken, labels-split}
 use Rattle.sessions.proofs.journal.Journal.take_back.Needs as need

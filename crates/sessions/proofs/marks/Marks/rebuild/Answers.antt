@@ -1,18 +1,18 @@
 -- The rows are those of a rebuild, and nothing is touched.
-use mathlib.Core.Path.{_≡_, refl, sym, ap, _∙_}
+use mathlib.Core.Path.{_≡_, ap, _∙_}
 use mathlib.Core.Bool.{Bool, false}
 use mathlib.Core.List.{List, []}
 use Prim.Native.Nat.{ℕ, _<_, _≤_}
 use native.Mathlib.Omega.{arith}
 use lib.ListN.{length, getD, take, drop, replicate}
 use Rattle.std.proofs.shelf.Lists.{length-map}
-use Rattle.std.specs.Of.Vec.{vec-items, vec-len}
+use Rattle.std.specs.Of.Vec.{vec-items}
 use Rattle.patterns.specs.declared.row.Element.{Element}
 use Rattle.patterns.specs.Elements.{elements-of}
 use Rattle.trees.specs.Forest.{Forest, size-at}
 use Rattle.sessions.specs.declared.marks.Marks.{Marks as Kept}
 use Rattle.sessions.specs.declared.shelf.Shelf.{Shelf}
-use Rattle.sessions.specs.Session.{Marks, any, rebuilt-marks, rebuild-steps}
+use Rattle.sessions.specs.Session.{Marks, any, rebuilt-marks}
 use Rattle.sessions.specs.Looks.{marks-view}
 use Rattle.sessions.specs.Shelves.{shelf-view}
 use Rattle.sessions.specs.Tries.{seen, spread-out, all-rows, all-steps}

@@ -1,13 +1,10 @@
 -- A place outside is not noted, and the definition leaves it too.
-use mathlib.Core.Path.{_≡_, refl, ap, sym, _∙_}
+use mathlib.Core.Path.{ap, sym}
 use mathlib.Core.Bool.{Bool, true}
 use mathlib.Core.List.{List}
 use native.Mathlib.Omega.{arith}
-use borrow.Author.Needs.{needs}
-use lib.ListN.{set}
 use Rattle.std.proofs.shelf.Lists.{set-past}
 use Rattle.std.specs.Of.Vec.{vec-items}
-use Rattle.sessions.specs.Session.{Marks}
 use Rattle.sessions.proofs.marks.Marks.touch.Needs as need
 
 pub returns-then-place-len : need.returns-then-place-len

@@ -1,12 +1,11 @@
 -- One row more with each turn.
-use mathlib.Core.Path.{_≡_, refl, ap, sym, _∙_}
+use mathlib.Core.Path.{ap, _∙_}
 use mathlib.Core.Bool.{false}
 use mathlib.Core.List.{_∷_, [], _++_}
 use native.Mathlib.Omega.{arith}
 use borrow.Author.Needs.{needs}
 use lib.ListN.{replicate}
 use Rattle.std.proofs.shelf.Lists.{replicate-more}
-use Rattle.std.specs.Of.Vec.{vec-items}
 use Rattle.sessions.proofs.marks.notes.blank_rows.Needs as need
 
 pub loop-i-again : need.loop-i-again

@@ -1,5 +1,5 @@
 -- Outside the tree the size is 0.
-use mathlib.Core.Path.{_≡_, sym, ap}
+use mathlib.Core.Path.{sym, ap}
 use Rattle.std.proofs.shelf.Lists.{getD-past}
 use Rattle.trees.specs.Forest.{Node, no-node}
 use Rattle.sessions.proofs.Puts.{size-outside}

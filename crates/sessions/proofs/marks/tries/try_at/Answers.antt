@@ -1,13 +1,12 @@
 -- The answer of the match tells the mark and the steps.
-use mathlib.Core.Path.{_≡_, refl, sym, ap, _∙_}
-use mathlib.Core.Bool.{Bool}
+use mathlib.Core.Path.{_≡_, refl, _∙_}
 use mathlib.Core.List.{List, []}
 use Prim.Native.Nat.{ℕ, _<_}
 use native.Mathlib.Omega.{arith}
 use lib.ListN.{length, getD, set}
 use Rattle.std.proofs.shelf.Lists.{getD-read}
 use Rattle.std.specs.Options.{isSome}
-use Rattle.std.specs.Of.Vec.{vec-items, vec-len}
+use Rattle.std.specs.Of.Vec.{vec-items}
 use Rattle.patterns.specs.declared.row.Element.{Element}
 use Rattle.patterns.specs.Elements.{elements-of}
 use Rattle.patterns.proofs.Kept.{kept}

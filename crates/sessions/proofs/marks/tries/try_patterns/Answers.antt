@@ -2,14 +2,13 @@
 use mathlib.Core.Path.{_≡_, refl, sym, ap, _∙_}
 use mathlib.Core.Bool.{Bool}
 use mathlib.Core.List.{List, []}
-use Prim.Native.Nat.{ℕ, _+_, _<_, _≤_}
+use Prim.Native.Nat.{ℕ, _+_}
 use native.Mathlib.Omega.{arith}
 use native.Mathlib.Numerals.{add-one}
 use lib.Dec.{leb}
 use lib.ListN.{length, getD}
-use Rattle.std.specs.Of.Vec.{vec-items, vec-len}
+use Rattle.std.specs.Of.Vec.{vec-items}
 use Rattle.patterns.specs.declared.row.Element.{Element}
-use Rattle.patterns.specs.Elements.{elements-of}
 use Rattle.trees.specs.Forest.{Forest}
 use Rattle.sessions.specs.Shelves.{shelf-view}
 use Rattle.sessions.specs.Tries.{tried-rows, tried-steps, all-rows, all-steps}

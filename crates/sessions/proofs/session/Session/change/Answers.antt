@@ -1,11 +1,10 @@
 -- A label that the tree refuses leaves all as it was.
-use mathlib.Core.Path.{_≡_, refl, ap, sym, _∙_}
+use mathlib.Core.Path.{_≡_, sym, _∙_}
 use mathlib.Core.Bool.{true, false}
 use Prim.Native.Nat.{_<_, _+_}
 use native.Mathlib.Omega.{arith}
 use lib.ListN.{length}
-use Rattle.refusals.specs.declared.Refusal.{Refusal}
-use Rattle.sessions.specs.Session.{State, Turn, opened, total-changes, wrong}
+use Rattle.sessions.specs.Session.{State, opened, total-changes, wrong}
 use Rattle.sessions.specs.Journals.{clicks-of}
 use Rattle.sessions.specs.View.{view, refusal-answer}
 use Rattle.sessions.proofs.Ends.{right-open, open-is, all-changes, too-large}

@@ -1,15 +1,13 @@
 -- The open click stays, with none open.
-use mathlib.Core.Path.{_≡_, refl, ap, sym, _∙_}
+use mathlib.Core.Path.{_≡_, ap, sym, _∙_}
 use mathlib.Core.Bool.{true, false}
 use Prim.Native.Nat.{_<_}
 use native.Mathlib.Omega.{arith}
 use lib.ListN.{length}
 use Rattle.std.proofs.shelf.Tests.{cond-false}
 use Rattle.std.specs.Of.Vec.{vec-items}
-use Rattle.sessions.specs.Session.{Journal, State, Turn, done, wrong}
+use Rattle.sessions.specs.Session.{Journal, done, wrong}
 use Rattle.sessions.specs.Journals.{clicks-of}
-use Rattle.sessions.specs.Looks.{marks-view}
-use Rattle.sessions.specs.Shelves.{shelf-view}
 use Rattle.sessions.specs.View.{view}
 use Rattle.sessions.proofs.Tables.{length-held}
 use Rattle.sessions.proofs.Ends.{right-open, open-is, kept-journal}

@@ -1,5 +1,5 @@
 -- A pattern that is not marked, a place without marks, and the first mark.
-use mathlib.Core.Path.{_≡_, refl, sym, subst}
+use mathlib.Core.Path.{refl, sym, subst}
 use native.Mathlib.Omega.{arith}
 use borrow.Author.Count.{below-more}
 use Rattle.sessions.specs.Firsts.{First}

@@ -1,13 +1,11 @@
 -- A change put back is one change less to put back.
-use mathlib.Core.Path.{_≡_, refl, sym, ap, _∙_}
+use mathlib.Core.Path.{refl, sym, ap, _∙_}
 use mathlib.Core.Bool.{false}
-use mathlib.Core.List.{List, [], _∷_}
-use Prim.Native.Nat.{ℕ, _<_}
+use mathlib.Core.List.{List, []}
 use native.Mathlib.Omega.{arith}
-use borrow.Author.Needs.{needs}
 use lib.ListN.{length, getD, drop}
 use Rattle.sessions.specs.Session.{Change, put, touching}
-use Rattle.sessions.specs.Held.{change-of, journal-of}
+use Rattle.sessions.specs.Held.{journal-of}
 use Rattle.sessions.specs.Journals.{clicks-of}
 use Rattle.sessions.specs.Looks.{marks-view}
 use Rattle.sessions.specs.Shelves.{shelf-view}

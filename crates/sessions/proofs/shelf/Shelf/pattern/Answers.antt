@@ -1,17 +1,15 @@
 -- A kept row is a pattern, and its elements are those of the number.
-use mathlib.Core.Path.{_≡_, refl, sym, ap, subst, _∙_}
+use mathlib.Core.Path.{_≡_, sym, ap, subst, _∙_}
 use mathlib.Core.Bool.{Bool-set}
-use mathlib.Core.List.{List, [], map}
+use mathlib.Core.List.{[]}
 use mathlib.Core.Logic.{∥∥₁-elim}
-use Prim.Native.Nat.{ℕ, _<_}
+use Prim.Native.Nat.{_<_}
 use native.Mathlib.Omega.{arith}
-use borrow.Author.Needs.{needs}
 use lib.ListN.{length, getD}
 use Rattle.std.proofs.shelf.Lists.{length-map, getD-map, getD-default}
-use Rattle.std.specs.Of.Vec.{vec-items, vec-len}
+use Rattle.std.specs.Of.Vec.{vec-items}
 use Rattle.std.specs.Slices.{found}
 use Rattle.patterns.specs.Elements.{elements-of, Is-pattern}
-use Rattle.patterns.specs.declared.row.Row.{Row}
 use Rattle.patterns.specs.declared.pattern.Pattern.{Pattern}
 use Rattle.sessions.specs.Kept.{no-row}
 use Rattle.sessions.proofs.shelf.Shelf.pattern.Needs as need
