@@ -91,7 +91,9 @@ pub fn play<T: ChangeableTree>(
     notes: &mut [Note],
 ) -> Result<(Session<T>, Hands), (T, Receipt, Refusal)>
     ensures played { λ r. ⌜ Cases r (λ p. Played (T·Meant .meaning tree) name (made (making (T·Meant .meaning tree) name) (first-table (foreign .session) (now (out .entry))) (now (calls .entry)) (min (length (now (calls .entry))) (length (now (notes .entry))))) (view (T·Meant .meaning) (p .0))) (λ e. (e .0 ≡ tree) × (e .1 ≡ foreign) × (refusal-answer (e .2) ≡ refused-by 27 6 0 0)) ⌝ }
+    ensures tables { λ r. ⌜ Cases r (λ p. table-of (p .1) (now (out .exit)) ≡ stands (making (T·Meant .meaning tree) name) (first-table (foreign .session) (now (out .entry))) (now (calls .entry)) (min (length (now (calls .entry))) (length (now (notes .entry)))) .table) (λ _. Unit {0}) ⌝ }
     ensures answers { λ r. ⌜ Cases r (λ _. (k : ℕ) → k < min (length (now (calls .entry))) (length (now (notes .entry))) → note-answer [] (getD (now (notes .exit)) k Note.NoReceipt) ≡ noted (stands (making (T·Meant .meaning tree) name) (first-table (foreign .session) (now (out .entry))) (now (calls .entry)) (suc k) .answer)) (λ _. (now (out .exit) ≡ now (out .entry)) × (now (notes .exit) ≡ now (notes .entry))) ⌝ }
+    ensures rest { λ r. ⌜ ((k : ℕ) → min (length (now (calls .entry))) (length (now (notes .entry))) ≤ k → getD (now (notes .exit)) k Note.NoReceipt ≡ getD (now (notes .entry)) k Note.NoReceipt) ⌝ }
 {
     match Session::new(heap, tree, name) {
         Ok(mut session) => {

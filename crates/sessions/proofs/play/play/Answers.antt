@@ -16,5 +16,7 @@ returns-in-Ok g c =
     let n : ℕ = min (length (c .args .calls .now)) (length (c .args .notes .now)) in
     record {
       played = played-by-calls m (c .args .name) t (c .args .calls .now) n (view (g .T·Meant .meaning) (c .play-on-hands .last .session)) (g .T·Meant·met .lawful (c .args .tree)) (c .play-on-hands .ensures .states ∙ ap (λ (s : State). stands s t (c .args .calls .now) n .state) (c .in-Ok .ensures tt));
+      tables = c .play-on-hands .ensures .tables ∙ ap (λ (s : State). stands s t (c .args .calls .now) n .table) (c .in-Ok .ensures tt);
       answers = λ k h. c .play-on-hands .ensures .answers k h ∙ ap (λ (s : State). noted (stands s t (c .args .calls .now) (suc k) .answer)) (c .in-Ok .ensures tt);
+      rest = c .play-on-hands .ensures .rest;
     }
