@@ -1,4 +1,6 @@
 // Runs the library on its largest inputs, as often as its first argument says, and prints what it found.
+#![tactic(auto)]
+
 use std::alloc::{AllocError, Global};
 use std::env;
 use std::time::Instant;

@@ -1,4 +1,6 @@
 // Checks every truncation and every change of one byte of a small label book.
+#![tactic(auto)]
+
 use std::io::{BufWriter, Write};
 
 // Two entries, 16 `w1` and 17 `door`.

@@ -1,4 +1,6 @@
 // A program that uses receipts rightly: each click that is opened is committed or abandoned, once.
+#![tactic(auto)]
+
 ghost use Rattle.std.specs.Prelude.{◌≡◌, false};
 ghost use Rattle.runs.specs.Session.{wrong};
 ghost use Rattle.sessions.specs.View.{view};

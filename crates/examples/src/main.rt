@@ -1,4 +1,6 @@
 // Obeys the script on standard input: published examples, and every prefix of three texts.
+#![tactic(auto)]
+
 use std::io::{BufWriter, Read, Write};
 
 fn main(rt: HostRuntime) -> anyhow::Result<()> {

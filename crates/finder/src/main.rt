@@ -1,4 +1,6 @@
 // The program: obeys the script in a file, or on standard input.
+#![tactic(auto)]
+
 use anyhow::anyhow;
 use std::io::{BufWriter, Read, Write};
 use std::{env, fs};

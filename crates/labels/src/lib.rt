@@ -1,4 +1,6 @@
 // The label book: labels and their names, as records in lent bytes.
+#![tactic(auto)]
+
 ghost use Rattle.std.specs.Prelude.{◌≡◌, Ok, Err, MatchResult};
 ghost use Rattle.labels.specs.Entries.{counted, named, read_book};
 ghost use Rattle.labels.specs.Laws.{Judged, Named};

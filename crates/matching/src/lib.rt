@@ -1,4 +1,6 @@
 // How a pattern is matched at a place of a tree, and the laws of matching.
+#![tactic(auto)]
+
 ghost use Rattle.std.specs.Prelude.{◌≡◌};
 ghost use Rattle.patterns.specs.Elements.{elements_of};
 ghost use Rattle.matching.specs.Answers.{no_match, match_answer, MatchLaws};

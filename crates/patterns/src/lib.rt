@@ -1,4 +1,6 @@
 // Patterns: rows of elements, the check of a row, and the type of the rows that passed it.
+#![tactic(auto)]
+
 pub mod check;
 pub mod pattern;
 pub mod row;

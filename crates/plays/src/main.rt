@@ -1,4 +1,6 @@
 // Two sessions played at once, on an image and on an outline: rebuilt at different moments, they answer alike.
+#![tactic(auto)]
+
 ghost use Rattle.std.specs.Prelude.{◌≡◌, true};
 ghost use Rattle.runs.specs.Session.{is_open};
 ghost use Rattle.sessions.specs.Plays.{Left};

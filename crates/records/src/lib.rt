@@ -1,4 +1,6 @@
 // The head of a record of a label book.
+#![tactic(auto)]
+
 ghost use Rattle.std.specs.Prelude.{◌≡◌};
 ghost use Rattle.records.specs.Heads.{head_of};
 

@@ -1,4 +1,6 @@
 // What a call answers when it refuses: the cause, the layer that found it, the byte and the steps.
+#![tactic(auto)]
+
 ghost use Rattle.std.specs.Prelude.{◌≡◌};
 ghost use Rattle.refusals.specs.Numbers.{cause_number, layer_number, numbers, refused};
 

@@ -1,4 +1,6 @@
 // Runs of a session's calls: the laws of every run, and worked runs.
+#![tactic(auto)]
+
 ghost use Rattle.runs.specs.Runs.{EveryRun};
 ghost use Rattle.runs.specs.Sizes.{EverySize};
 ghost use Rattle.runs.specs.Example.{Example, LawAtWork, Refusals};

@@ -1,4 +1,6 @@
 // The script language of the program: lines, operands, and answers as text.
+#![tactic(auto)]
+
 use desk::Desk;
 use lines::Lines;
 use std::alloc::Global;

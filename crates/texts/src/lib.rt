@@ -1,4 +1,6 @@
 // Tree text and pattern text: the reader and its tokens, and what they are read into.
+#![tactic(auto)]
+
 mod bytes;
 mod nest;
 pub mod pattern;

@@ -1,4 +1,6 @@
 // Every truncation and single-byte change of an image, through the check and the make, and one change of labels on both makes.
+#![tactic(auto)]
+
 use refusals::Refusal;
 use std::io;
 use trees::Tree;

@@ -1,4 +1,6 @@
 // Trees of labels, known by their questions alone.
+#![tactic(auto)]
+
 ghost use Rattle.std.specs.Prelude.{◌≡◌, length, MatchResult};
 ghost use Rattle.trees.specs.Forest.{Forest, Law, relabel};
 ghost use Rattle.trees.specs.Questions.{label_answer, size_answer, put_answer};

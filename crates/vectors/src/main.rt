@@ -1,4 +1,6 @@
 // Obeys the script on standard input, whose answers were made by an independent implementation.
+#![tactic(auto)]
+
 use std::io::{BufWriter, Read, Write};
 
 fn main(rt: HostRuntime) -> anyhow::Result<()> {

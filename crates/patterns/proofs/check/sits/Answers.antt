@@ -17,37 +17,37 @@ returns-then-number-ge-MOST-VARIABLES c =
 pub returns-then-end-row : goal.returns-then-end-row
 returns-then-end-row c =
     let n : length (elements_of c.args.row.now) ≡ c.args.row.now.count = length_elements c.args.row.now c.requires.1.0 in
-    let most : c.extent-of-extent.result ≡ extent (element_at (elements_of c.args.row.now) c.args.i) = c.extent-of-extent.ensures.value ∙ ap extent c.element-of-element.ensures in
+    let most : c.extent_of-extent.result ≡ extent (element_at (elements_of c.args.row.now) c.args.i) = c.extent_of-extent.ensures.value ∙ ap extent c.element_of-element.ensures in
     (λ f. absurd (false≢true f), λ s. absurd (omega (arith, n, most, s.inside, c.if-end-row.true)))
 
 pub returns-then-outer-end : goal.returns-then-outer-end
 returns-then-outer-end c =
-    let most : c.extent-of-extent.result ≡ extent (element_at (elements_of c.args.row.now) c.args.i) = c.extent-of-extent.ensures.value ∙ ap extent c.element-of-element.ensures in
-    let inner : c.args.i < ends (elements_of c.args.row.now) c.loop-g.g = omega (arith, c.end-of-outer.ensures, c.if-i-outer.true) in
-    (λ f. absurd (false≢true f), λ s. absurd (omega (arith, most, c.end-of-outer.ensures, s.nested c.loop-g.g c.loop-g-test.true inner, c.if-outer-end.true)))
+    let most : c.extent_of-extent.result ≡ extent (element_at (elements_of c.args.row.now) c.args.i) = c.extent_of-extent.ensures.value ∙ ap extent c.element_of-element.ensures in
+    let inner : c.args.i < ends (elements_of c.args.row.now) c.loop-g.g = omega (arith, c.end_of-outer.ensures, c.if-i-outer.true) in
+    (λ f. absurd (false≢true f), λ s. absurd (omega (arith, most, c.end_of-outer.ensures, s.nested c.loop-g.g c.loop-g-test.true inner, c.if-outer-end.true)))
 
 pub loop-g-preserved : goal.loop-g-preserved
 loop-g-preserved c =
-    let most : c.extent-of-extent.result ≡ extent (element_at (elements_of c.args.row.now) c.args.i) = c.extent-of-extent.ensures.value ∙ ap extent c.element-of-element.ensures in
+    let most : c.extent_of-extent.result ≡ extent (element_at (elements_of c.args.row.now) c.args.i) = c.extent_of-extent.ensures.value ∙ ap extent c.element_of-element.ensures in
     elim c.if-i-outer.branch [
       | then-i-outer+else-outer-end w ↦ (
-        omega (arith, w.groups-is, c.loop-g.invariant.0, around_in (elements_of c.args.row.now) c.args.i c.loop-g.g (omega (arith, w.if-i-outer.true, c.end-of-outer.ensures))),
+        omega (arith, w.groups-is, c.loop-g.invariant.0, around_in (elements_of c.args.row.now) c.args.i c.loop-g.g (omega (arith, w.if-i-outer.true, c.end_of-outer.ensures))),
         omega (arith, w.groups-is, c.loop-g.invariant.1),
-        below_more _ _ c.loop-g.invariant.2 (λ k. omega (arith, most, c.end-of-outer.ensures, w.if-outer-end.false)),
+        below_more _ _ c.loop-g.invariant.2 (λ k. omega (arith, most, c.end_of-outer.ensures, w.if-outer-end.false)),
       )
       | else-i-outer w ↦ (
-        omega (arith, w.groups-is, c.loop-g.invariant.0, around_out (elements_of c.args.row.now) c.args.i c.loop-g.g (omega (arith, w.if-i-outer.false, c.end-of-outer.ensures))),
+        omega (arith, w.groups-is, c.loop-g.invariant.0, around_out (elements_of c.args.row.now) c.args.i c.loop-g.g (omega (arith, w.if-i-outer.false, c.end_of-outer.ensures))),
         omega (arith, w.groups-is, c.loop-g.invariant.1),
-        below_more _ _ c.loop-g.invariant.2 (λ k. absurd (omega (arith, k, c.end-of-outer.ensures, w.if-i-outer.false))),
+        below_more _ _ c.loop-g.invariant.2 (λ k. absurd (omega (arith, k, c.end_of-outer.ensures, w.if-i-outer.false))),
       )
     ]
 
 pub returns : goal.returns
 returns c =
     let n : length (elements_of c.args.row.now) ≡ c.args.row.now.count = length_elements c.args.row.now c.requires.1.0 in
-    let e = c.element-of-element.ensures in
-    let number : c.variable-number-number.result ≡ number_of (element_at (elements_of c.args.row.now) c.args.i) = c.variable-number-number.ensures ∙ ap number_of e in
-    let most : c.extent-of-extent.result ≡ extent (element_at (elements_of c.args.row.now) c.args.i) = c.extent-of-extent.ensures.value ∙ ap extent e in
+    let e = c.element_of-element.ensures in
+    let number : c.variable_number-number.result ≡ number_of (element_at (elements_of c.args.row.now) c.args.i) = c.variable_number-number.ensures ∙ ap number_of e in
+    let most : c.extent_of-extent.result ≡ extent (element_at (elements_of c.args.row.now) c.args.i) = c.extent_of-extent.ensures.value ∙ ap extent e in
     let least : c.least-extent-of-least.result ≡ least_extent (element_at (elements_of c.args.row.now) c.args.i) = c.least-extent-of-least.ensures ∙ ap least_extent e in
     let last : c.loop-g.g ≡ c.args.i = omega arith in
     let groups : c.loop-g.groups ≡ around (elements_of c.args.row.now) c.args.i c.args.i = c.loop-g.invariant.0 ∙ ap (around (elements_of c.args.row.now) c.args.i) last in (
