@@ -13,38 +13,38 @@ use Rattle.matching.proofs.Wholes.{level_formed}
 use Rattle.matching.proofs.Answering.{size_there, label_there, size_refused, label_refused, match_ended, laws-hold}
 use Rattle.matching.proofs.match_at.Goals as goal
 
-pub overflow-add-place : goal.overflow-add-place
-overflow-add-place g c =
-    let (h, k) = size_there (g.T.Meant.meaning c.args.tree.now) c.args.place c.in-ok-size.size c.in-ok-size.ensures in
+pub overflow_add-place : goal.overflow_add-place
+overflow_add-place g c =
+    let (h, k) = size_there (g.T.Meant.meaning c.args.tree.now) c.args.place c.in_ok-size.size c.in_ok-size.ensures in
     omega (arith, k, fits_whole (g.T.Meant.meaning c.args.tree.now) (sound _ (g.T.Meant.lawful c.args.tree.now)) c.args.place h, (g.T.Meant.lawful c.args.tree.now).few_nodes)
 
-pub match-level-requires : goal.match-level-requires
-match-level-requires g c =
-    let (h, k) = size_there (g.T.Meant.meaning c.args.tree.now) c.args.place c.in-ok-size.size c.in-ok-size.ensures in
-    (level_formed _ c.elements.ensures.sound, ((label_there (g.T.Meant.meaning c.args.tree.now) c.args.place c.in-ok-label.label c.in-ok-label.ensures, k), (subst (λ (n : ℕ). Fits (g.T.Meant.meaning c.args.tree.now) c.args.place (c.args.place + n)) (sym k) (fits_at (sound _ (g.T.Meant.lawful c.args.tree.now)) c.args.place h), (λ x q e. none_some q (sym (blank 16 x) ∙ e), omega (arith, k, fits_whole (g.T.Meant.meaning c.args.tree.now) (sound _ (g.T.Meant.lawful c.args.tree.now)) c.args.place h, (g.T.Meant.lawful c.args.tree.now).few_nodes)))))
+pub match_level-requires : goal.match_level-requires
+match_level-requires g c =
+    let (h, k) = size_there (g.T.Meant.meaning c.args.tree.now) c.args.place c.in_ok-size.size c.in_ok-size.ensures in
+    (level_formed _ c.elements.ensures.sound, ((label_there (g.T.Meant.meaning c.args.tree.now) c.args.place c.in_ok-label.label c.in_ok-label.ensures, k), (subst (λ (n : ℕ). Fits (g.T.Meant.meaning c.args.tree.now) c.args.place (c.args.place + n)) (sym k) (fits_at (sound _ (g.T.Meant.lawful c.args.tree.now)) c.args.place h), (λ x q e. none_some q (sym (blank 16 x) ∙ e), omega (arith, k, fits_whole (g.T.Meant.meaning c.args.tree.now) (sound _ (g.T.Meant.lawful c.args.tree.now)) c.args.place h, (g.T.Meant.lawful c.args.tree.now).few_nodes)))))
 
-pub returns-then-match-level : goal.returns-then-match-level
-returns-then-match-level g c =
-    let (h, k) = size_there (g.T.Meant.meaning c.args.tree.now) c.args.place c.in-ok-size.size c.in-ok-size.ensures in
-    let i : ended true c.match-level.new.found ≡ tick 0 (walks (g.T.Meant.meaning c.args.tree.now) (elements_of c.args.pattern.now.row) c.args.place (c.args.place + c.in-ok-size.size) (replicate 16 None)) = c.if-match-level.ensures.answer ∙ ap (λ (es : List Element). tick 0 (walks (g.T.Meant.meaning c.args.tree.now) es c.args.place (c.args.place + c.in-ok-size.size) (replicate 16 None))) c.elements.ensures.value in
-    let e = sym (match_ended (g.T.Meant.meaning c.args.tree.now) (g.T.Meant.lawful c.args.tree.now) (elements_of c.args.pattern.now.row) c.args.place c.in-ok-size.size h k true c.match-level.new.found i) in
+pub returns-then-match_level : goal.returns-then-match_level
+returns-then-match_level g c =
+    let (h, k) = size_there (g.T.Meant.meaning c.args.tree.now) c.args.place c.in_ok-size.size c.in_ok-size.ensures in
+    let i : ended true c.match_level.new.found ≡ tick 0 (walks (g.T.Meant.meaning c.args.tree.now) (elements_of c.args.pattern.now.row) c.args.place (c.args.place + c.in_ok-size.size) (replicate 16 None)) = c.if-match_level.ensures.answer ∙ ap (λ (es : List Element). tick 0 (walks (g.T.Meant.meaning c.args.tree.now) es c.args.place (c.args.place + c.in_ok-size.size) (replicate 16 None))) c.elements.ensures.value in
+    let e = sym (match_ended (g.T.Meant.meaning c.args.tree.now) (g.T.Meant.lawful c.args.tree.now) (elements_of c.args.pattern.now.row) c.args.place c.in_ok-size.size h k true c.match_level.new.found i) in
     record { answer = e; laws = laws-hold (g.T.Meant.meaning c.args.tree.now) (g.T.Meant.lawful c.args.tree.now) (elements_of c.args.pattern.now.row) (kept c.args.pattern.now).formed c.args.place _ e }
 
-pub returns-else-match-level : goal.returns-else-match-level
-returns-else-match-level g c =
-    let (h, k) = size_there (g.T.Meant.meaning c.args.tree.now) c.args.place c.in-ok-size.size c.in-ok-size.ensures in
-    let i : ended false c.match-level.new.found ≡ tick 0 (walks (g.T.Meant.meaning c.args.tree.now) (elements_of c.args.pattern.now.row) c.args.place (c.args.place + c.in-ok-size.size) (replicate 16 None)) = c.if-match-level.ensures.answer ∙ ap (λ (es : List Element). tick 0 (walks (g.T.Meant.meaning c.args.tree.now) es c.args.place (c.args.place + c.in-ok-size.size) (replicate 16 None))) c.elements.ensures.value in
-    let e : Err c.no_match.result ≡ match_answer (g.T.Meant.meaning c.args.tree.now) (elements_of c.args.pattern.now.row) c.args.place = ap (λ (x : Refusal). Err x) c.no_match.ensures ∙ sym (match_ended (g.T.Meant.meaning c.args.tree.now) (g.T.Meant.lawful c.args.tree.now) (elements_of c.args.pattern.now.row) c.args.place c.in-ok-size.size h k false c.match-level.new.found i) in
+pub returns-else-match_level : goal.returns-else-match_level
+returns-else-match_level g c =
+    let (h, k) = size_there (g.T.Meant.meaning c.args.tree.now) c.args.place c.in_ok-size.size c.in_ok-size.ensures in
+    let i : ended false c.match_level.new.found ≡ tick 0 (walks (g.T.Meant.meaning c.args.tree.now) (elements_of c.args.pattern.now.row) c.args.place (c.args.place + c.in_ok-size.size) (replicate 16 None)) = c.if-match_level.ensures.answer ∙ ap (λ (es : List Element). tick 0 (walks (g.T.Meant.meaning c.args.tree.now) es c.args.place (c.args.place + c.in_ok-size.size) (replicate 16 None))) c.elements.ensures.value in
+    let e : Err c.no_match.result ≡ match_answer (g.T.Meant.meaning c.args.tree.now) (elements_of c.args.pattern.now.row) c.args.place = ap (λ (x : Refusal). Err x) c.no_match.ensures ∙ sym (match_ended (g.T.Meant.meaning c.args.tree.now) (g.T.Meant.lawful c.args.tree.now) (elements_of c.args.pattern.now.row) c.args.place c.in_ok-size.size h k false c.match_level.new.found i) in
     record { answer = e; laws = laws-hold (g.T.Meant.meaning c.args.tree.now) (g.T.Meant.lawful c.args.tree.now) (elements_of c.args.pattern.now.row) (kept c.args.pattern.now).formed c.args.place _ e }
 
-pub returns-in-err-label : goal.returns-in-err-label
-returns-in-err-label g c =
+pub returns-in_err-label : goal.returns-in_err-label
+returns-in_err-label g c =
     let p = err_from_is_err_and c.from-residual.result c.from-residual.ensures.1 in
-    let e : c.from-residual.result ≡ match_answer (g.T.Meant.meaning c.args.tree.now) (elements_of c.args.pattern.now.row) c.args.place = p.1 ∙ ap (λ (x : Refusal). Err x) p.2 ∙ label_refused (g.T.Meant.meaning c.args.tree.now) (elements_of c.args.pattern.now.row) c.args.place c.in-err-label.field-0.0 c.in-err-label.ensures in
+    let e : c.from-residual.result ≡ match_answer (g.T.Meant.meaning c.args.tree.now) (elements_of c.args.pattern.now.row) c.args.place = p.1 ∙ ap (λ (x : Refusal). Err x) p.2 ∙ label_refused (g.T.Meant.meaning c.args.tree.now) (elements_of c.args.pattern.now.row) c.args.place c.in_err-label.field-0.0 c.in_err-label.ensures in
     record { answer = e; laws = laws-hold (g.T.Meant.meaning c.args.tree.now) (g.T.Meant.lawful c.args.tree.now) (elements_of c.args.pattern.now.row) (kept c.args.pattern.now).formed c.args.place _ e }
 
-pub returns-in-err-size : goal.returns-in-err-size
-returns-in-err-size g c =
-    let p = err_from_is_err_and c.from-residual-in-err-size.result c.from-residual-in-err-size.ensures.1 in
-    let e : c.from-residual-in-err-size.result ≡ match_answer (g.T.Meant.meaning c.args.tree.now) (elements_of c.args.pattern.now.row) c.args.place = p.1 ∙ ap (λ (x : Refusal). Err x) p.2 ∙ size_refused (g.T.Meant.meaning c.args.tree.now) (elements_of c.args.pattern.now.row) c.args.place c.in-err-size.field-0.0 c.in-err-size.ensures in
+pub returns-in_err-size : goal.returns-in_err-size
+returns-in_err-size g c =
+    let p = err_from_is_err_and c.from-residual-in_err-size.result c.from-residual-in_err-size.ensures.1 in
+    let e : c.from-residual-in_err-size.result ≡ match_answer (g.T.Meant.meaning c.args.tree.now) (elements_of c.args.pattern.now.row) c.args.place = p.1 ∙ ap (λ (x : Refusal). Err x) p.2 ∙ size_refused (g.T.Meant.meaning c.args.tree.now) (elements_of c.args.pattern.now.row) c.args.place c.in_err-size.field-0.0 c.in_err-size.ensures in
     record { answer = e; laws = laws-hold (g.T.Meant.meaning c.args.tree.now) (g.T.Meant.lawful c.args.tree.now) (elements_of c.args.pattern.now.row) (kept c.args.pattern.now).formed c.args.place _ e }

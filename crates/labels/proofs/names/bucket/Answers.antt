@@ -11,8 +11,8 @@ loop-byte-preserved c =
     let i = c.loop-byte.byte-index in
     (ap (hash_step c.loop-byte.hash) c.from.ensures ∙ ap (λ (h : ℕ). hash_step h (get_or n i 0)) c.loop-byte.invariant.0 ∙ sym (fold_more hash_step 0 n i 0 (omega arith)), omega arith)
 
-pub overflow-cast-result : goal.overflow-cast-result
-overflow-cast-result c = omega (arith, c.loop-byte.invariant.1)
+pub overflow_cast-result : goal.overflow_cast-result
+overflow_cast-result c = omega (arith, c.loop-byte.invariant.1)
 
 pub returns : goal.returns
 returns c =

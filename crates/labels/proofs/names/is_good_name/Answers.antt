@@ -5,12 +5,12 @@ use Rattle.std.proofs.lemmas.Bool.{lt-ltb, le-leb, and_right, and_from, eqb-fals
 use Rattle.labels.specs.Entries.{all_name_bytes, name_byte, good_name}
 use Rattle.labels.proofs.names.is_good_name.Goals as goal
 
-pub returns-then-not-is-name-byte : goal.returns-then-not-is-name-byte
-returns-then-not-is-name-byte c =
+pub returns-then-not-is_name_byte : goal.returns-then-not-is_name_byte
+returns-then-not-is_name_byte c =
     let n = c.args.name.now in
     let i = c.loop-byte.byte-index in
     let step : all_name_bytes (drop i n) ≡ name_byte (get_or n i 0) && all_name_bytes (drop (i + 1) n) = at_drop_more all_name_bytes n i 0 (omega arith) in
-    let bad : name_byte (get_or n i 0) ≡ false = sym c.if-not-is-name-byte.ensures in
+    let bad : name_byte (get_or n i 0) ≡ false = sym c.if-not-is_name_byte.ensures in
     sym (and_right (ltb 0 (length n)) _ (and_right (leb (length n) 64) _ (sym c.loop-byte.invariant ∙ step ∙ ap (λ (b : Bool). b && all_name_bytes (drop (i + 1) n)) bad)))
 
 pub loop-byte-preserved : goal.loop-byte-preserved
@@ -18,10 +18,10 @@ loop-byte-preserved c =
     let n = c.args.name.now in
     let i = c.loop-byte.byte-index in
     let step : all_name_bytes (drop i n) ≡ name_byte (get_or n i 0) && all_name_bytes (drop (i + 1) n) = at_drop_more all_name_bytes n i 0 (omega arith) in
-    sym (step ∙ ap (λ (b : Bool). b && all_name_bytes (drop (i + 1) n)) (sym c.if-not-is-name-byte.ensures)) ∙ c.loop-byte.invariant
+    sym (step ∙ ap (λ (b : Bool). b && all_name_bytes (drop (i + 1) n)) (sym c.if-not-is_name_byte.ensures)) ∙ c.loop-byte.invariant
 
 pub returns : goal.returns
 returns c =
     let n = c.args.name.now in
     let rest : all_name_bytes (drop c.loop-byte.byte-index n) ≡ true = at_drop_all all_name_bytes n c.loop-byte.byte-index (omega arith) in
-    sym (and_from (ltb 0 (length n)) _ (lt-ltb 0 (length n) (omega (arith, eqb-false (length n) 0 (sym c.if-is-empty.ensures)))) (and_from (leb (length n) 64) _ (le-leb (length n) 64 (omega arith)) (sym c.loop-byte.invariant ∙ rest)))
+    sym (and_from (ltb 0 (length n)) _ (lt-ltb 0 (length n) (omega (arith, eqb-false (length n) 0 (sym c.if-is_empty.ensures)))) (and_from (leb (length n) 64) _ (le-leb (length n) 64 (omega arith)) (sym c.loop-byte.invariant ∙ rest)))

@@ -6,8 +6,8 @@ use Rattle.matching.proofs.binding.bind_variable.Goals as goal
 pub compare-compared-requires : goal.compare-compared-requires
 compare-compared-requires g c = (c.requires.1.1.1.0 c.args.variable c.in-Some.first c.in-Some.is, (c.requires.1.0, c.requires.1.1.0))
 
-pub overflow-add-found : goal.overflow-add-found
-overflow-add-found g c = omega (arith, few_pairs (g.T.Meant.meaning c.args.tree.now) c.in-Some.first c.args.place, c.compare-compared.ensures.pairs, c.requires.1.1.0, c.requires.1.1.1.1)
+pub overflow_add-found : goal.overflow_add-found
+overflow_add-found g c = omega (arith, few_pairs (g.T.Meant.meaning c.args.tree.now) c.in-Some.first c.args.place, c.compare-compared.ensures.pairs, c.requires.1.1.0, c.requires.1.1.1.1)
 
 pub returns-in-None : goal.returns-in-None
 returns-in-None g c = record {

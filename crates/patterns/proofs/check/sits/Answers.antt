@@ -6,13 +6,13 @@ use Rattle.patterns.proofs.Slots.{length_elements, around_in, around_out}
 use Rattle.patterns.proofs.check.sits.Goals as goal
 use Rattle.patterns.proofs.check.sits.Goals.{then-i-outer+else-outer-end, else-i-outer}
 
-pub returns-then-number-ge-MOST-VARIABLES : goal.returns-then-number-ge-MOST-VARIABLES
-returns-then-number-ge-MOST-VARIABLES c =
-    let e = c.element-of-element.ensures in
-    let number : c.variable-number-number.result ≡ number_of (element_at (elements_of c.args.row.now) c.args.i) = c.variable-number-number.ensures ∙ ap number_of e in
-    let most : c.extent-of-extent.result ≡ extent (element_at (elements_of c.args.row.now) c.args.i) = c.extent-of-extent.ensures.value ∙ ap extent e in
-    let least : c.least-extent-of-least.result ≡ least_extent (element_at (elements_of c.args.row.now) c.args.i) = c.least-extent-of-least.ensures ∙ ap least_extent e in
-    (λ f. absurd (false≢true f), λ s. absurd (⊎_elim (λ h. omega (arith, h, number, s.numbered)) (λ h. omega (arith, h.1, most, least, s.sized)) c.then-number-ge-MOST-VARIABLES.either))
+pub returns-then-number-ge-MOST_VARIABLES : goal.returns-then-number-ge-MOST_VARIABLES
+returns-then-number-ge-MOST_VARIABLES c =
+    let e = c.element_of-element.ensures in
+    let number : c.variable_number-number.result ≡ number_of (element_at (elements_of c.args.row.now) c.args.i) = c.variable_number-number.ensures ∙ ap number_of e in
+    let most : c.extent_of-extent.result ≡ extent (element_at (elements_of c.args.row.now) c.args.i) = c.extent_of-extent.ensures.value ∙ ap extent e in
+    let least : c.least_extent_of-least.result ≡ least_extent (element_at (elements_of c.args.row.now) c.args.i) = c.least_extent_of-least.ensures ∙ ap least_extent e in
+    (λ f. absurd (false≢true f), λ s. absurd (⊎_elim (λ h. omega (arith, h, number, s.numbered)) (λ h. omega (arith, h.1, most, least, s.sized)) c.then-number-ge-MOST_VARIABLES.either))
 
 pub returns-then-end-row : goal.returns-then-end-row
 returns-then-end-row c =
@@ -48,11 +48,11 @@ returns c =
     let e = c.element_of-element.ensures in
     let number : c.variable_number-number.result ≡ number_of (element_at (elements_of c.args.row.now) c.args.i) = c.variable_number-number.ensures ∙ ap number_of e in
     let most : c.extent_of-extent.result ≡ extent (element_at (elements_of c.args.row.now) c.args.i) = c.extent_of-extent.ensures.value ∙ ap extent e in
-    let least : c.least-extent-of-least.result ≡ least_extent (element_at (elements_of c.args.row.now) c.args.i) = c.least-extent-of-least.ensures ∙ ap least_extent e in
+    let least : c.least_extent_of-least.result ≡ least_extent (element_at (elements_of c.args.row.now) c.args.i) = c.least_extent_of-least.ensures ∙ ap least_extent e in
     let last : c.loop-g.g ≡ c.args.i = omega arith in
     let groups : c.loop-g.groups ≡ around (elements_of c.args.row.now) c.args.i c.args.i = c.loop-g.invariant.0 ∙ ap (around (elements_of c.args.row.now) c.args.i) last in (
       λ t. record {
-        numbered = omega (arith, number, c.if-number-ge-MOST-VARIABLES.false);
+        numbered = omega (arith, number, c.if-number-ge-MOST_VARIABLES.false);
         sized = omega (arith, most, least, c.if-extent-least.false);
         inside = omega (arith, n, most, c.if-end-row.false);
         nested = λ g h k. c.loop-g.invariant.2 g (omega arith) k;

@@ -10,4 +10,4 @@ pub returns-in-Bindings : goal.returns-in-Bindings
 returns-in-Bindings g c =
     let v : State = view g.T.Meant.meaning c.args.session.now in
     let t : Table = table_of c.args.hands c.args.out.now in
-    ap (λ (x : State × Option Answer). record { state = x.0; table = t; answer = x.1 }) (c.play-bindings.ensures c.args.out.now) ∙ ap (λ (k : Call). played_one v t k) (sym c.in-Bindings.is)
+    ap (λ (x : State × Option Answer). record { state = x.0; table = t; answer = x.1 }) (c.play_bindings.ensures c.args.out.now) ∙ ap (λ (k : Call). played_one v t k) (sym c.in-Bindings.is)

@@ -12,4 +12,4 @@ returns c =
     let e = ap (λ z. z.now) c.level.ensures.same in
     let ended : Ended es s c.level.new.row c.level.new.names c.level.new.reader.at c.finish.new.reader.start c.finish.result =
     subst (λ (z : List ℕ). Ended es z c.level.new.row c.level.new.names c.level.new.reader.at c.finish.new.reader.start c.finish.result) e (c.finish.ensures es c.level.new.names) in
-    read_whole es s c.args.row.now c.level.new.row c.new-names.result c.level.new.names c.args.reader.now.at c.level.new.reader.at _ c.finish.result c.requires.none c.new-names.ensures c.requires.start c.in-ok-level.ensures.went ended
+    read_whole es s c.args.row.now c.level.new.row c.new-names.result c.level.new.names c.args.reader.now.at c.level.new.reader.at _ c.finish.result c.requires.none c.new-names.ensures c.requires.start c.in_ok-level.ensures.went ended

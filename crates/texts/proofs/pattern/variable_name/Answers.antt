@@ -54,7 +54,7 @@ loop-names-preserved-in-Variable c =
 
 pub loop-names-smaller : goal.loop-names-smaller
 loop-names-smaller c =
-    let v = names_same c.next.result [] c.in-default.not-Variable c.in-default.not-End in
+    let v = names_same c.next.result [] c.in_default.not-Variable c.in_default.not-End in
     let o = on c.args.text.now c.loop-names.reader.text.now c.loop-names.reader.at c.next.new.self.at c.loop-names.reader.within c.loop-names.invariant.0 c.next.ensures.moved (ap is_end (sym c.next.ensures.token) ∙ v.1) in
     omega (arith, o.0, o.1)
 
@@ -63,7 +63,7 @@ loop-names-preserved c =
     let s = c.args.text.now in
     let i = c.loop-names.reader.at in
     let ns = names_in s c.loop-names.names in
-    let v = names_same c.next.result (names_in s c.loop-names.names) c.in-default.not-Variable c.in-default.not-End in
+    let v = names_same c.next.result (names_in s c.loop-names.names) c.in_default.not-Variable c.in_default.not-End in
     let o = on s c.loop-names.reader.text.now i c.next.new.self.at c.loop-names.reader.within c.loop-names.invariant.0 c.next.ensures.moved (ap is_end (sym c.next.ensures.token) ∙ v.1) in
     let q = c.next.ensures.token ∙ ap (λ (z : List ℕ). (next_token z i).what) c.loop-names.invariant.0 in (
       ap (λ z. z.now) c.next.ensures.same ∙ c.loop-names.invariant.0,

@@ -21,8 +21,8 @@ returns-then-not-opens c =
       stepped = λ rs l. let a = word-alone (entries c.args.book.now.bytes.now) s i n.depth n.empty rs c.args.reader.now.within c.in-Word.word.now q o in cc;
     }
 
-pub returns-in-ok-record : goal.returns-in-ok-record
-returns-in-ok-record c =
+pub returns-in_ok-record : goal.returns-in_ok-record
+returns-in_ok-record c =
     let n = c.args.nest.now in
     let s = c.args.reader.now.text.now in
     let i = c.args.reader.now.at in
@@ -34,13 +34,13 @@ returns-in-ok-record c =
     let m2 = moves s (next_token s i).to m.inner in
     let j : c.opens.new.reader.at ≡ (next_token s (next_token s i).to).to = cc in
     let f = m.forward (ap is_end (sym q)) in
-    let st : c.start-start.result ≡ (next_token s i).start = c.start-start.ensures ∙ c.next-token.ensures.start in
+    let st : c.start-start.result ≡ (next_token s i).start = c.start-start.ensures ∙ c.next_token.ensures.start in
     record {
       same = search rules;
       stepped = (
         λ rs l.
-            let r = c.in-ok-record.record in
-            let a = ap (λ (k : ℕ). node_answer es n.depth k w (next_token s i).start) l ∙ ap (node_answer es n.depth n.count w) (sym st) ∙ sym c.node.ensures ∙ c.in-ok-record.was in
+            let r = c.in_ok-record.record in
+            let a = ap (λ (k : ℕ). node_answer es n.depth k w (next_token s i).start) l ∙ ap (node_answer es n.depth n.count w) (sym st) ∙ sym c.node.ensures ∙ c.in_ok-record.was in
             word-node es s i n.depth n.empty rs c.args.reader.now.within w r q o a
             ∙ ap (λ (k : ℕ). tree_scan es (n.depth + 1) true (rs ++ (r ∷ [])) (tokens_from s k)) (sym j),
         refl,
@@ -48,8 +48,8 @@ returns-in-ok-record c =
       );
     }
 
-pub returns-in-err-record : goal.returns-in-err-record
-returns-in-err-record c =
+pub returns-in_err-record : goal.returns-in_err-record
+returns-in_err-record c =
     let n = c.args.nest.now in
     let s = c.args.reader.now.text.now in
     let i = c.args.reader.now.at in
@@ -57,29 +57,29 @@ returns-in-err-record c =
     let w = c.in-Word.word.now in
     let q = c.in-Word.ensures.token in
     let o : is_open (next_token s (next_token s i).to).what ≡ true = cc in
-    let st : c.start-start.result ≡ (next_token s i).start = c.start-start.ensures ∙ c.next-token.ensures.start in
+    let st : c.start-start.result ≡ (next_token s i).start = c.start-start.ensures ∙ c.next_token.ensures.start in
     let p = err_from_is_err_and c.from-residual.result c.from-residual.ensures.1 in
     rw (p.1, p.2) (record {
       same = search rules;
       stepped = λ rs l.
-          let a = ap (λ (k : ℕ). node_answer es n.depth k w (next_token s i).start) l ∙ ap (node_answer es n.depth n.count w) (sym st) ∙ sym c.node.ensures ∙ c.in-err-record.was in
+          let a = ap (λ (k : ℕ). node_answer es n.depth k w (next_token s i).start) l ∙ ap (node_answer es n.depth n.count w) (sym st) ∙ sym c.node.ensures ∙ c.in_err-record.was in
           word-refused es s i n.depth n.empty rs c.args.reader.now.within w _ q o a;
     })
 
-pub returns-in-err-record-2 : goal.returns-in-err-record-2
-returns-in-err-record-2 c =
+pub returns-in_err-record-2 : goal.returns-in_err-record-2
+returns-in_err-record-2 c =
     let n = c.args.nest.now in
     let s = c.args.reader.now.text.now in
     let i = c.args.reader.now.at in
     let es = entries c.args.book.now.bytes.now in
     let w = c.in-Quoted.name.now in
     let q = c.in-Quoted.ensures.token in
-    let st : c.start-start.result ≡ (next_token s i).start = c.start-start.ensures ∙ c.next-token.ensures.start in
-    let p = err_from_is_err_and c.from-residual-in-err-record-2.result c.from-residual-in-err-record-2.ensures.1 in
+    let st : c.start-start.result ≡ (next_token s i).start = c.start-start.ensures ∙ c.next_token.ensures.start in
+    let p = err_from_is_err_and c.from-residual-in_err-record-2.result c.from-residual-in_err-record-2.ensures.1 in
     rw (p.1, p.2) (record {
       same = search rules;
       stepped = λ rs l.
-          let a = ap (λ (k : ℕ). node_answer es n.depth k w (next_token s i).start) l ∙ ap (node_answer es n.depth n.count w) (sym st) ∙ sym c.node-in-Quoted.ensures ∙ c.in-err-record-2.was in
+          let a = ap (λ (k : ℕ). node_answer es n.depth k w (next_token s i).start) l ∙ ap (node_answer es n.depth n.count w) (sym st) ∙ sym c.node-in-Quoted.ensures ∙ c.in_err-record-2.was in
           quoted-refused es s i n.depth n.empty rs c.args.reader.now.within w _ q a;
     })
 
@@ -95,8 +95,8 @@ returns-in-Some c =
       stepped = λ rs l. let b = sign-wrong (entries c.args.book.now.bytes.now) s i n.depth n.empty rs c.args.reader.now.within c.in-Sign.byte c.in-Some.cause q k in cc;
     }
 
-pub returns-in-ok-record-2 : goal.returns-in-ok-record-2
-returns-in-ok-record-2 c =
+pub returns-in_ok-record-2 : goal.returns-in_ok-record-2
+returns-in_ok-record-2 c =
     let n = c.args.nest.now in
     let s = c.args.reader.now.text.now in
     let i = c.args.reader.now.at in
@@ -105,28 +105,28 @@ returns-in-ok-record-2 c =
     let q = c.in-Quoted.ensures.token in
     let m = moves s i c.args.reader.now.within in
     let f = m.forward (ap is_end (sym q)) in
-    let st : c.start-start.result ≡ (next_token s i).start = c.start-start.ensures ∙ c.next-token.ensures.start in
+    let st : c.start-start.result ≡ (next_token s i).start = c.start-start.ensures ∙ c.next_token.ensures.start in
     record {
       same = search rules;
       stepped = (
         λ rs l.
-            let r = c.in-ok-record-2.record in
-            let a = ap (λ (k : ℕ). node_answer es n.depth k w (next_token s i).start) l ∙ ap (node_answer es n.depth n.count w) (sym st) ∙ sym c.node-in-Quoted.ensures ∙ c.in-ok-record-2.was in
+            let r = c.in_ok-record-2.record in
+            let a = ap (λ (k : ℕ). node_answer es n.depth k w (next_token s i).start) l ∙ ap (node_answer es n.depth n.count w) (sym st) ∙ sym c.node-in-Quoted.ensures ∙ c.in_ok-record-2.was in
             quoted-node es s i n.depth n.empty rs c.args.reader.now.within w r q a
-            ∙ ap (λ (k : ℕ). tree_scan es n.depth false (rs ++ (r ∷ [])) (tokens_from s k)) (sym c.next-token.ensures.moved),
+            ∙ ap (λ (k : ℕ). tree_scan es n.depth false (rs ++ (r ∷ [])) (tokens_from s k)) (sym c.next_token.ensures.moved),
         refl,
-        omega (arith, c.next-token.ensures.moved),
+        omega (arith, c.next_token.ensures.moved),
       );
     }
 
-pub returns-in-default : goal.returns-in-default
-returns-in-default c =
+pub returns-in_default : goal.returns-in_default
+returns-in_default c =
     let n = c.args.nest.now in
     let s = c.args.reader.now.text.now in
     let i = c.args.reader.now.at in
     let es = entries c.args.book.now.bytes.now in
     let q = c.in-Sign.ensures.token in
-    let k : sign_fault_lem c.in-Sign.byte n.depth n.empty ≡ None = sym c.in-default.ensures.value in
+    let k : sign_fault_lem c.in-Sign.byte n.depth n.empty ≡ None = sym c.in_default.ensures.value in
     let m = moves s i c.args.reader.now.within in
     let f = m.forward (ap is_end (sym q)) in
     record {
@@ -134,14 +134,14 @@ returns-in-default c =
       stepped = (
         λ rs l.
             sign-step es s i n.depth n.empty rs c.args.reader.now.within c.in-Sign.byte q k
-            ∙ ap (λ (k : ℕ). tree_scan es (n.depth - 1) false rs (tokens_from s k)) (sym c.next-token.ensures.moved),
+            ∙ ap (λ (k : ℕ). tree_scan es (n.depth - 1) false rs (tokens_from s k)) (sym c.next_token.ensures.moved),
         refl,
-        omega (arith, c.next-token.ensures.moved),
+        omega (arith, c.next_token.ensures.moved),
       );
     }
 
-pub returns-in-Some-end-fault : goal.returns-in-Some-end-fault
-returns-in-Some-end-fault c =
+pub returns-in-Some-end_fault : goal.returns-in-Some-end_fault
+returns-in-Some-end_fault c =
     let n = c.args.nest.now in
     let s = c.args.reader.now.text.now in
     let i = c.args.reader.now.at in
@@ -149,8 +149,8 @@ returns-in-Some-end-fault c =
     record {
       same = search rules;
       stepped = λ rs l.
-          let a : end_fault_lem n.depth (length rs) ≡ Some c.in-Some-end-fault.cause = ap (end_fault_lem n.depth) l ∙ sym c.in-Some-end-fault.ensures in
-          let b = end-wrong (entries c.args.book.now.bytes.now) s i n.depth n.empty rs c.args.reader.now.within c.in-Some-end-fault.cause q a in
+          let a : end_fault_lem n.depth (length rs) ≡ Some c.in-Some-end_fault.cause = ap (end_fault_lem n.depth) l ∙ sym c.in-Some-end_fault.ensures in
+          let b = end-wrong (entries c.args.book.now.bytes.now) s i n.depth n.empty rs c.args.reader.now.within c.in-Some-end_fault.cause q a in
           cc;
     }
 
@@ -171,8 +171,8 @@ returns-in-Variable c =
     let s = c.args.reader.now.text.now in
     let i = c.args.reader.now.at in
     let es = entries c.args.book.now.bytes.now in
-    let q = c.next-token.ensures.token in
-    let st : Err c.refusal-in-Variable.result ≡ Err (tree_fault BadText (next_token s i).start) = ap Err (c.refusal-in-Variable.ensures ∙ ap (tree_fault BadText) (c.start-start.ensures ∙ c.next-token.ensures.start)) in
+    let q = c.next_token.ensures.token in
+    let st : Err c.refusal-in-Variable.result ≡ Err (tree_fault BadText (next_token s i).start) = ap Err (c.refusal-in-Variable.ensures ∙ ap (tree_fault BadText) (c.start-start.ensures ∙ c.next_token.ensures.start)) in
     record {
       same = search rules;
       stepped = λ rs l.

@@ -12,7 +12,7 @@ loop-found-init c = (c.new-reader.ensures.text, ([], begins (entries c.args.book
 on : (c : goal.In-default) → Reached (entries c.args.book.now.bytes.now) c.args.text.now c.step.new.nest c.step.new.reader.at × (c.loop-found.reader.at < c.step.new.reader.at)
 on c =
     goes_on (entries c.args.book.now.bytes.now) c.args.text.now c.loop-found.reader.text.now c.loop-found.invariant.0 c.loop-found.nest c.loop-found.reader.at c.step.new.nest c.step.new.reader.at
-    c.in-ok-found.found c.in-default.not-Done c.in-ok-found.ensures.stepped c.loop-found.invariant.1
+    c.in_ok-found.found c.in_default.not-Done c.in_ok-found.ensures.stepped c.loop-found.invariant.1
 
 pub loop-found-smaller : goal.loop-found-smaller
 loop-found-smaller c =
@@ -26,12 +26,12 @@ pub returns-in-Done : goal.returns-in-Done
 returns-in-Done c =
     let es = entries c.args.book.now.bytes.now in
     let h = c.loop-found.invariant.1 in
-    let st = subst (λ x. Stepped es c.loop-found.reader.text.now c.loop-found.nest c.loop-found.reader.at c.step.new.nest c.step.new.reader.at (Ok x)) c.in-Done.is c.in-ok-found.ensures.stepped in
+    let st = subst (λ x. Stepped es c.loop-found.reader.text.now c.loop-found.nest c.loop-found.reader.at c.step.new.nest c.step.new.reader.at (Ok x)) c.in-Done.is c.in_ok-found.ensures.stepped in
     let e = done_on es c.args.text.now c.loop-found.reader.text.now c.loop-found.invariant.0 c.loop-found.nest c.loop-found.reader.at c.step.new.nest c.step.new.reader.at h.0 h.1 st in
     (h.0, e.0, e.1)
 
-pub returns-in-err-found : goal.returns-in-err-found
-returns-in-err-found c =
+pub returns-in_err-found : goal.returns-in_err-found
+returns-in_err-found c =
     let h = c.loop-found.invariant.1 in
     let p = err_from_is_err_and c.from-residual.result c.from-residual.ensures.1 in
-    rw (p.1, p.2) (err-on (entries c.args.book.now.bytes.now) c.args.text.now c.loop-found.reader.text.now c.loop-found.invariant.0 c.loop-found.nest c.loop-found.reader.at c.step.new.nest c.step.new.reader.at h.0 h.1 c.in-err-found.field-0.0 c.in-err-found.ensures.stepped)
+    rw (p.1, p.2) (err-on (entries c.args.book.now.bytes.now) c.args.text.now c.loop-found.reader.text.now c.loop-found.invariant.0 c.loop-found.nest c.loop-found.reader.at c.step.new.nest c.step.new.reader.at h.0 h.1 c.in_err-found.field-0.0 c.in_err-found.ensures.stepped)

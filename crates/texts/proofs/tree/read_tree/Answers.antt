@@ -8,20 +8,20 @@ use Rattle.texts.specs.TreeText.{tree_scan}
 use Rattle.texts.proofs.TreeLoops.{counted_ok, answered, slotted}
 use Rattle.texts.proofs.tree.read_tree.Goals as goal
 
-pub returns-in-err-count : goal.returns-in-err-count
-returns-in-err-count c =
-    let b = counted_ok c.args.book.now c.in-ok-checked.field-0 (sym c.open-checked.ensures.check ∙ c.in-ok-checked.was) in
-    let e = ap (λ x. tree_scan (entries x) 0 false [] (tokens c.args.text.now)) (sym c.open-checked.ensures.book) ∙ c.in-err-count.ensures in
-    let p = err_from_is_err_and c.from-residual-in-err-count.result c.from-residual-in-err-count.ensures.1 in
+pub returns-in_err-count : goal.returns-in_err-count
+returns-in_err-count c =
+    let b = counted_ok c.args.book.now c.in_ok-checked.field-0 (sym c.open-checked.ensures.check ∙ c.in_ok-checked.was) in
+    let e = ap (λ x. tree_scan (entries x) 0 false [] (tokens c.args.text.now)) (sym c.open-checked.ensures.book) ∙ c.in_err-count.ensures in
+    let p = err_from_is_err_and c.from-residual-in_err-count.result c.from-residual-in_err-count.ensures.1 in
     record {
-      value = p.1 ∙ ap Err p.2 ∙ sym (answered (read_book c.args.book.now) (entries c.args.book.now) (tokens c.args.text.now) (length c.args.records.now) (Err c.in-err-count.field-0.0) b e);
-      written = sym (slotted (read_book c.args.book.now) (entries c.args.book.now) (tokens c.args.text.now) c.args.records.now (Err c.in-err-count.field-0.0) b e);
+      value = p.1 ∙ ap Err p.2 ∙ sym (answered (read_book c.args.book.now) (entries c.args.book.now) (tokens c.args.text.now) (length c.args.records.now) (Err c.in_err-count.field-0.0) b e);
+      written = sym (slotted (read_book c.args.book.now) (entries c.args.book.now) (tokens c.args.text.now) c.args.records.now (Err c.in_err-count.field-0.0) b e);
     }
 
 pub returns-then-count-records : goal.returns-then-count-records
 returns-then-count-records c =
-    let b = counted_ok c.args.book.now c.in-ok-checked.field-0 (sym c.open-checked.ensures.check ∙ c.in-ok-checked.was) in
-    let h = c.in-ok-count.ensures in
+    let b = counted_ok c.args.book.now c.in_ok-checked.field-0 (sym c.open-checked.ensures.check ∙ c.in_ok-checked.was) in
+    let h = c.in_ok-count.ensures in
     let e = ap (λ x. tree_scan (entries x) 0 false [] (tokens c.args.text.now)) (sym c.open-checked.ensures.book) ∙ h.1 in
     let l : length c.args.records.now < length h.0 = omega (arith, h.2, c.if-count-records.true) in
     record {
@@ -31,11 +31,11 @@ returns-then-count-records c =
 
 pub returns : goal.returns
 returns c =
-    let b = counted_ok c.args.book.now c.in-ok-checked.field-0 (sym c.open-checked.ensures.check ∙ c.in-ok-checked.was) in
-    let h = c.in-ok-count.ensures in
+    let b = counted_ok c.args.book.now c.in_ok-checked.field-0 (sym c.open-checked.ensures.check ∙ c.in_ok-checked.was) in
+    let h = c.in_ok-count.ensures in
     let e = ap (λ x. tree_scan (entries x) 0 false [] (tokens c.args.text.now)) (sym c.open-checked.ensures.book) ∙ h.1 in
     let l : length h.0 ≤ length c.args.records.now = omega (arith, h.2, c.if-count-records.false) in
     record {
       value = ap Ok h.2 ∙ sym (answered (read_book c.args.book.now) (entries c.args.book.now) (tokens c.args.text.now) (length c.args.records.now) (Ok h.0) b e ∙ cond-false _ _ _ (le-ltb _ _ l));
-      written = c.write-nodes.ensures h.0 h.1 ∙ sym (slotted (read_book c.args.book.now) (entries c.args.book.now) (tokens c.args.text.now) c.args.records.now (Ok h.0) b e ∙ cond-false _ _ _ (le-ltb _ _ l));
+      written = c.write_nodes.ensures h.0 h.1 ∙ sym (slotted (read_book c.args.book.now) (entries c.args.book.now) (tokens c.args.text.now) c.args.records.now (Ok h.0) b e ∙ cond-false _ _ _ (le-ltb _ _ l));
     }

@@ -28,14 +28,14 @@ slot c =
     let l = has_slot (entries c.args.book.now.bytes.now) c.args.text.now c.step.new.nest c.step.new.reader.at (take c.loop-found.count c.loop-found.records) c.requires.0 c.in-Node.record (on c) c.requires.1 in
     omega (arith, l, length-take-le c.loop-found.count c.loop-found.records w.room, c.requires.2, c.loop-found.auto.records)
 
-pub offset-bounds-records-count : goal.offset-bounds-records-count
-offset-bounds-records-count c = let l = slot c in omega arith
+pub offset_bounds-records-count : goal.offset_bounds-records-count
+offset_bounds-records-count c = let l = slot c in omega arith
 
 pub bounds-records-count : goal.bounds-records-count
 bounds-records-count c = slot c
 
-pub overflow-add-count : goal.overflow-add-count
-overflow-add-count c = let l = slot c in omega arith
+pub overflow_add-count : goal.overflow_add-count
+overflow_add-count c = let l = slot c in omega arith
 
 pub loop-found-smaller-in-Node : goal.loop-found-smaller-in-Node
 loop-found-smaller-in-Node c =

@@ -7,8 +7,8 @@ use Rattle.trees.specs.Windows.{sound, fits_whole}
 use Rattle.trees.proofs.Writes.{size_is, label_is, write_more, write_all, reads_back}
 use Rattle.trees.proofs.write.write_image.Goals as goal
 
-pub record-of-requires : goal.record-of-requires
-record-of-requires g c =
+pub record_of-requires : goal.record_of-requires
+record_of-requires g c =
     let m = g.T.Meant.meaning c.args.tree.now in
     let p = c.loop-place.place in
     let law = g.T.Meant.lawful c.args.tree.now in
@@ -24,7 +24,7 @@ loop-place-preserved g c =
     let l : c.unwrap-label.result ≡ label_at m p = label_is m p c.unwrap-label.result h (sym c.label.ensures ∙ c.unwrap-label.ensures) in
     let s : c.unwrap-size.result ≡ size_at m p = size_is m p c.unwrap-size.result h (sym c.size.ensures ∙ c.unwrap-size.ensures) in
     let node : node_bytes (record { label = c.unwrap-label.result; size = c.unwrap-size.result }) ≡ node_bytes (get_or m p no_node) = λ i. node_bytes (record { label = l i; size = s i }) in
-    write_more m p ((6 * p + 6) - 6 * p) c.args.out.now c.loop-place.out _ h (omega arith) c.loop-place.invariant (c.copy-from-slice.ensures.after ∙ c.record-of.ensures ∙ node)
+    write_more m p ((6 * p + 6) - 6 * p) c.args.out.now c.loop-place.out _ h (omega arith) c.loop-place.invariant (c.copy_from_slice.ensures.after ∙ c.record_of.ensures ∙ node)
 
 pub returns : goal.returns
 returns g c =

@@ -11,8 +11,8 @@ use Rattle.labels.proofs.book.Book.open.Goals as goal
 pub scan-requires : goal.scan-requires
 scan-requires c = record { none = c.new-index.ensures.none; right = c.new-index.ensures.right c.args.bytes.now }
 
-pub invariant-of-result-in-Err : goal.invariant-of-result-in-Err
-invariant-of-result-in-Err c =
+pub invariant_of-result-in-Err : goal.invariant_of-result-in-Err
+invariant_of-result-in-Err c =
     let bs = c.args.bytes.now in
     let x = c.new.result in
     let r = c.new.ensures.right bs in

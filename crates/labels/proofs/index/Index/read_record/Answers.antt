@@ -16,32 +16,32 @@ label_test es r s l t e d h = sym (h ∙ ap (bad_label es) (e ∙ ap (λ x. (fir
 name_test : (es : List Entry) (r s n : List ℕ) (t : Bool) → n ≡ (first_entry r).name → r ≡ s → t ≡ bad_name es n → bad_name es (first_entry s).name ≡ t
 name_test es r s n t e d h = sym (h ∙ ap (bad_name es) (e ∙ ap (λ x. (first_entry x).name) d))
 
-pub returns-in-default : goal.returns-in-default
-returns-in-default c =
+pub returns-in_default : goal.returns-in_default
+returns-in_default c =
     let bs = c.args.bytes.now in
     let i = c.args.at in
     let es = known bs c.args.self.now in
     let rest = take_rest bs i in
-    fault_length es (drop i bs) (sym (ap bad_length rest) ∙ c.in-default.ensures)
+    fault_length es (drop i bs) (sym (ap bad_length rest) ∙ c.in_default.ensures)
 
-pub returns-then-is-bad-label : goal.returns-then-is-bad-label
-returns-then-is-bad-label c =
+pub returns-then-is_bad_label : goal.returns-then-is_bad_label
+returns-then-is_bad_label c =
     let bs = c.args.bytes.now in
     let i = c.args.at in
     let es = known bs c.args.self.now in
     let rest = take_rest bs i in
     let long : bad_length (drop i bs) ≡ false = sym (ap bad_length rest) ∙ c.in-Some.ensures.0 in
-    fault_label es (drop i bs) long (label_test es _ (drop i bs) _ true c.in-Some.ensures.1 rest c.if-is-bad-label.ensures)
+    fault_label es (drop i bs) long (label_test es _ (drop i bs) _ true c.in-Some.ensures.1 rest c.if-is_bad_label.ensures)
 
-pub returns-then-is-bad-name : goal.returns-then-is-bad-name
-returns-then-is-bad-name c =
+pub returns-then-is_bad_name : goal.returns-then-is_bad_name
+returns-then-is_bad_name c =
     let bs = c.args.bytes.now in
     let i = c.args.at in
     let es = known bs c.args.self.now in
     let rest = take_rest bs i in
     let long : bad_length (drop i bs) ≡ false = sym (ap bad_length rest) ∙ c.in-Some.ensures.0 in
-    let label : bad_label es (first_entry (drop i bs)).label ≡ false = label_test es _ (drop i bs) _ false c.in-Some.ensures.1 rest c.if-is-bad-label.ensures in
-    fault_name es (drop i bs) long label (name_test es _ (drop i bs) _ true c.in-Some.ensures.2 rest c.if-is-bad-name.ensures)
+    let label : bad_label es (first_entry (drop i bs)).label ≡ false = label_test es _ (drop i bs) _ false c.in-Some.ensures.1 rest c.if-is_bad_label.ensures in
+    fault_name es (drop i bs) long label (name_test es _ (drop i bs) _ true c.in-Some.ensures.2 rest c.if-is_bad_name.ensures)
 
 pub returns-then-self-ge-MOST : goal.returns-then-self-ge-MOST
 returns-then-self-ge-MOST c =
@@ -50,8 +50,8 @@ returns-then-self-ge-MOST c =
     let es = known bs c.args.self.now in
     let rest = take_rest bs i in
     let long : bad_length (drop i bs) ≡ false = sym (ap bad_length rest) ∙ c.in-Some.ensures.0 in
-    let label : bad_label es (first_entry (drop i bs)).label ≡ false = label_test es _ (drop i bs) _ false c.in-Some.ensures.1 rest c.if-is-bad-label.ensures in
-    let name : bad_name es (first_entry (drop i bs)).name ≡ false = name_test es _ (drop i bs) _ false c.in-Some.ensures.2 rest c.if-is-bad-name.ensures in
+    let label : bad_label es (first_entry (drop i bs)).label ≡ false = label_test es _ (drop i bs) _ false c.in-Some.ensures.1 rest c.if-is_bad_label.ensures in
+    let name : bad_name es (first_entry (drop i bs)).name ≡ false = name_test es _ (drop i bs) _ false c.in-Some.ensures.2 rest c.if-is_bad_name.ensures in
     fault_many es (drop i bs) long label name (omega (arith, length_noted bs c.args.self.now.starts c.args.self.now.count))
 
 pub returns : goal.returns
@@ -61,8 +61,8 @@ returns c =
     let es = known bs c.args.self.now in
     let rest = take_rest bs i in
     let long : bad_length (drop i bs) ≡ false = sym (ap bad_length rest) ∙ c.in-Some.ensures.0 in
-    let label : bad_label es (first_entry (drop i bs)).label ≡ false = label_test es _ (drop i bs) _ false c.in-Some.ensures.1 rest c.if-is-bad-label.ensures in
-    let name : bad_name es (first_entry (drop i bs)).name ≡ false = name_test es _ (drop i bs) _ false c.in-Some.ensures.2 rest c.if-is-bad-name.ensures in
+    let label : bad_label es (first_entry (drop i bs)).label ≡ false = label_test es _ (drop i bs) _ false c.in-Some.ensures.1 rest c.if-is_bad_label.ensures in
+    let name : bad_name es (first_entry (drop i bs)).name ≡ false = name_test es _ (drop i bs) _ false c.in-Some.ensures.2 rest c.if-is_bad_name.ensures in
     let x = c.args.self.now in
     let y = c.note.new.self in
     let parts = good_parts (drop i bs) long in

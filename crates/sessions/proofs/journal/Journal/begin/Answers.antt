@@ -5,21 +5,21 @@ use Rattle.sessions.specs.Held.{held}
 use Rattle.sessions.proofs.Tables.{of, length_held, held_begun}
 use Rattle.sessions.proofs.journal.Journal.begin.Goals as goal
 
-pub push-reserved-requires : goal.push-reserved-requires
-push-reserved-requires c =
+pub push_reserved-requires : goal.push_reserved-requires
+push_reserved-requires c =
     let j = c.args.self.now in
     omega (arith, length_held (vec_items j.clicks) (vec_items j.changes), j.clicks.ok.0, j.click_room, c.requires)
 
-pub invariant-of-self : goal.invariant-of-self
-invariant-of-self c =
+pub invariant_of-self : goal.invariant_of-self
+invariant_of-self c =
     let j = c.args.self.now in
-    let sums : sum_by of (vec_items c.push-reserved.new.self) ≡ vec_len j.changes = ap (sum_by of) c.push-reserved.ensures.items ∙ sum_by_push of (vec_items j.clicks) (record { changes = 0 }) ∙ omega (arith, j.counted) in
-    (search rules, (search rules, (sums, ((λ _. omega (arith, c.push-reserved.ensures.len)), (search rules, tt)))))
+    let sums : sum_by of (vec_items c.push_reserved.new.self) ≡ vec_len j.changes = ap (sum_by of) c.push_reserved.ensures.items ∙ sum_by_push of (vec_items j.clicks) (record { changes = 0 }) ∙ omega (arith, j.counted) in
+    (search rules, (search rules, (sums, ((λ _. omega (arith, c.push_reserved.ensures.len)), (search rules, tt)))))
 
 pub returns : goal.returns
 returns c =
     let j = c.args.self.now in
     record {
-      held = ap (λ ks. held ks (vec_items j.changes)) c.push-reserved.ensures.items ∙ held_begun (vec_items j.clicks) (vec_items j.changes);
+      held = ap (λ ks. held ks (vec_items j.changes)) c.push_reserved.ensures.items ∙ held_begun (vec_items j.clicks) (vec_items j.changes);
       opened = refl;
     }

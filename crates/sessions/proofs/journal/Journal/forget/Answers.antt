@@ -24,8 +24,8 @@ gone ks ls (Some k) rs t e s h =
       rest = f.rest ∙ sym (ap (λ x. drop 1 (held x rs)) e);
     }
 
-pub invariant-of-self : goal.invariant-of-self
-invariant-of-self c =
+pub invariant_of-self : goal.invariant_of-self
+invariant_of-self c =
     let j = c.args.self.now in
     let some : 0 < vec_len j.clicks = omega (arith, length_held (vec_items j.clicks) (vec_items j.changes), j.clicks.ok.0, c.requires.0) in
     let g = gone _ _ c.pop.result (vec_items j.changes) ((ltb_from_iff c.pop.ensures.variant) ∙ lt-ltb 0 (vec_len j.clicks) some) c.pop.ensures.items (j.counted ∙ j.changes.ok.0) c.requires.1 in

@@ -5,8 +5,8 @@ use Rattle.sessions.specs.Held.{held, all_labels}
 use Rattle.sessions.proofs.Tables.{of, total_held, held-noted, labels_push}
 use Rattle.sessions.proofs.journal.Journal.note.Goals as goal
 
-pub overflow-add-click : goal.overflow-add-click
-overflow-add-click c =
+pub overflow_add-click : goal.overflow_add-click
+overflow_add-click c =
     let j = c.args.self.now in
     let long = j.clicks.ok.0 in
     let inside : c.len-last.result - 1 < length (vec_items j.clicks) = omega (arith, j.begun c.requires.during) in
@@ -16,20 +16,20 @@ overflow-add-click c =
     let small = c.requires.room in
     search rules
 
-pub push-reserved-requires : goal.push-reserved-requires
-push-reserved-requires c =
+pub push_reserved-requires : goal.push_reserved-requires
+push_reserved-requires c =
     let j = c.args.self.now in
     omega (arith, total_held (vec_items j.clicks) (vec_items j.changes) _ j.changes.ok.0 j.counted, c.requires.room, j.change_room)
 
-pub invariant-of-self : goal.invariant-of-self
-invariant-of-self c =
+pub invariant_of-self : goal.invariant_of-self
+invariant_of-self c =
     let j = c.args.self.now in
     let long = j.clicks.ok.0 in
     let inside : c.len-last.result - 1 < length (vec_items j.clicks) = omega (arith, j.begun c.requires.during) in
     let more = sum_by-set of (vec_items j.clicks) (c.len-last.result - 1) (record { changes = c.index-mut-click.result.now.changes + 1 }) c.index-mut-click.result.now inside in
     let is = ap of c.index-mut-click.ensures.value in
-    let sums : sum_by of (set (vec_items j.clicks) (c.len-last.result - 1) (record { changes = c.index-mut-click.result.now.changes + 1 })) ≡ vec_len c.push-reserved.new.self = omega (arith, j.counted, c.push-reserved.ensures.len) in
-    let low : all_labels (vec_items c.push-reserved.new.self) ≡ _ = ap all_labels c.push-reserved.ensures.items ∙ labels_push (vec_items j.changes) c.args.replaced j.labels c.requires.small in
+    let sums : sum_by of (set (vec_items j.clicks) (c.len-last.result - 1) (record { changes = c.index-mut-click.result.now.changes + 1 })) ≡ vec_len c.push_reserved.new.self = omega (arith, j.counted, c.push_reserved.ensures.len) in
+    let low : all_labels (vec_items c.push_reserved.new.self) ≡ _ = ap all_labels c.push_reserved.ensures.items ∙ labels_push (vec_items j.changes) c.args.replaced j.labels c.requires.small in
     (search rules, (search rules, (sums, (j.begun, (low, tt)))))
 
 pub returns : goal.returns
@@ -37,7 +37,7 @@ returns c =
     let j = c.args.self.now in
     let one : length (vec_items j.clicks) ≡ c.len-last.result - 1 + 1 = omega (arith, j.begun c.requires.during, j.clicks.ok.0) in
     record {
-      held = ap (held (set (vec_items j.clicks) (c.len-last.result - 1) (record { changes = c.index-mut-click.result.now.changes + 1 }))) c.push-reserved.ensures.items
+      held = ap (held (set (vec_items j.clicks) (c.len-last.result - 1) (record { changes = c.index-mut-click.result.now.changes + 1 }))) c.push_reserved.ensures.items
           ∙ held-noted (vec_items j.clicks) (c.len-last.result - 1) c.index-mut-click.result.now one _ (vec_items j.changes) c.args.replaced (ap (λ k. of k + 1) c.index-mut-click.ensures.value);
       opened = refl;
     }

@@ -31,8 +31,8 @@ labels_left rs qs (Some r) t i l = (labels_split qs r (sym (ap all_labels i) ∙
 same_count : (ks : List Click) (i : ℕ) (x y : Click) → i < length ks → x ≡ get_or ks i x → y ≡ get_or ks i y → x.changes ≡ y.changes
 same_count ks i x y h p q = ap of p ∙ ap of (get_or_default ks i x y h) ∙ sym (ap of q)
 
-pub overflow-sub-last : goal.overflow-sub-last
-overflow-sub-last c =
+pub overflow_sub-last : goal.overflow_sub-last
+overflow_sub-last c =
     let j = c.args.self.now in
     omega (arith, length_held (vec_items j.clicks) (vec_items j.changes), j.clicks.ok.0, c.requires)
 
@@ -57,15 +57,15 @@ returns-then-index-eq0 c =
       some = c.requires;
     }
 
-pub overflow-sub-click : goal.overflow-sub-click
-overflow-sub-click c =
+pub overflow_sub-click : goal.overflow_sub-click
+overflow_sub-click c =
     let j = c.args.self.now in
     let long = length_held (vec_items j.clicks) (vec_items j.changes) in
     let inside : c.len-last.result - 1 < length (vec_items j.clicks) = omega (arith, j.clicks.ok.0, c.requires) in
     omega (arith, same_count (vec_items j.clicks) (c.len-last.result - 1) c.index.result.now c.index-mut-click.result.now inside c.index.ensures c.index-mut-click.ensures.value, c.if-index-eq0.false)
 
-pub invariant-of-self : goal.invariant-of-self
-invariant-of-self c =
+pub invariant_of-self : goal.invariant_of-self
+invariant_of-self c =
     let j = c.args.self.now in
     let x = c.index-mut-click.result.now in
     let i = c.len-last.result - 1 in

@@ -3,11 +3,11 @@ use Rattle.std.proofs.Common.{◌≡◌, ℕ, ◌<◌, false, List, [], length, 
 use Rattle.std.proofs.lemmas.List.{length-replicate, get_or-replicate}
 use Rattle.sessions.proofs.marks.Marks.new.Goals as goal
 
-pub invariant-of-result : goal.invariant-of-result
-invariant-of-result c =
-    let k = c.in-ok-rows.rows in
-    let rows : vec_items k ≡ replicate c.args.places (replicate 16 false) = c.in-ok-rows.ensures in
+pub invariant_of-result : goal.invariant_of-result
+invariant_of-result c =
+    let k = c.in_ok-rows.rows in
+    let rows : vec_items k ≡ replicate c.args.places (replicate 16 false) = c.in_ok-rows.ensures in
     let long : vec_len k ≡ c.args.places = k.ok.0 ∙ ap length rows ∙ length-replicate c.args.places (replicate 16 false) in
-    let same : vec_len c.in-ok-touched.touched ≡ c.args.places = c.in-ok-touched.ensures.len in
+    let same : vec_len c.in_ok-touched.touched ≡ c.args.places = c.in_ok-touched.ensures.len in
     let wide : (i : ℕ) → i < vec_len k → length (get_or (vec_items k) i []) ≡ 16 = λ i h. ap (λ (x : List (List _)). length (get_or x i [])) rows ∙ ap length (get_or-replicate c.args.places i (replicate 16 false) [] (omega arith)) in
     (same ∙ sym long, (omega (arith, c.requires), (wide, tt)))

@@ -28,17 +28,17 @@ few s = omega (arith, length-map (vec_items s.rows) elements_of, s.rows.ok.0, s.
 rows_are : (m : Forest) (s : Shelf) (k : Kept) (t : List Bool) (r : List (List Bool)) → t ≡ spread_out m (marks_view k).touched → r ≡ all_rows m (shelf_view s) k.tried t (marks_view k).marks (length (shelf_view s)) → r ≡ rebuilt_marks (seen m (shelf_view s) (marks_view k))
 rows_are m s k t r a b = b ∙ ap (λ (x : List Bool). all_rows m (shelf_view s) k.tried x (marks_view k).marks (length (shelf_view s))) a ∙ all_rebuilt m (shelf_view s) (marks_view k) (wide k) (paired k) (few s)
 
-pub invariant-of-self : goal.invariant-of-self
-invariant-of-self g c =
+pub invariant_of-self : goal.invariant_of-self
+invariant_of-self g c =
     let m : Forest = g.T.Meant.meaning c.args.tree.now in
     let s = c.args.shelf.now in
     let k = c.args.self.now in
-    let rows = rows_are m c.args.shelf.now c.args.self.now (vec_items c.spread.new.touched) (vec_items c.try-patterns-steps.new.rows) c.spread.ensures.items c.try-patterns-steps.ensures.items in (
-      omega (arith, c.clear.ensures.len, c.spread.ensures.len, c.try-patterns-steps.ensures.len, c.args.self.now.paired),
+    let rows = rows_are m c.args.shelf.now c.args.self.now (vec_items c.spread.new.touched) (vec_items c.try_patterns-steps.new.rows) c.spread.ensures.items c.try_patterns-steps.ensures.items in (
+      omega (arith, c.clear.ensures.len, c.spread.ensures.len, c.try_patterns-steps.ensures.len, c.args.self.now.paired),
       (
-        omega (arith, c.try-patterns-steps.ensures.len, c.args.self.now.few),
+        omega (arith, c.try_patterns-steps.ensures.len, c.args.self.now.few),
         (
-          (λ i h. ap (λ (x : List (List Bool)). length (get_or x i [])) rows ∙ rebuilt_wide m (shelf_view c.args.shelf.now) (marks_view c.args.self.now) i (omega (arith, c.try-patterns-steps.ensures.len, c.args.self.now.rows.ok.0))),
+          (λ i h. ap (λ (x : List (List Bool)). length (get_or x i [])) rows ∙ rebuilt_wide m (shelf_view c.args.shelf.now) (marks_view c.args.self.now) i (omega (arith, c.try_patterns-steps.ensures.len, c.args.self.now.rows.ok.0))),
           tt,
         ),
       ),
@@ -49,10 +49,10 @@ returns g c =
     let m : Forest = g.T.Meant.meaning c.args.tree.now in
     let ps : List (List Element) = shelf_view c.args.shelf.now in
     let K : Marks = marks_view c.args.self.now in
-    let rows = rows_are m c.args.shelf.now c.args.self.now (vec_items c.spread.new.touched) (vec_items c.try-patterns-steps.new.rows) c.spread.ensures.items c.try-patterns-steps.ensures.items in
+    let rows = rows_are m c.args.shelf.now c.args.self.now (vec_items c.spread.new.touched) (vec_items c.try_patterns-steps.new.rows) c.spread.ensures.items c.try_patterns-steps.ensures.items in
     let same : length (vec_items c.spread.new.touched) ≡ length K.touched = ap (λ (x : List Bool). length x) c.spread.ensures.items ∙ length_tabulate (λ i. any (take (size_at m i) (drop i K.touched))) (length K.touched) in
     let none : vec_items c.clear.new.touched ≡ replicate (length K.touched) false = c.clear.ensures.items ∙ ap (λ (n : ℕ). replicate n false) same in
     record {
       marks = λ i. record { tried = c.count-self.ensures.0 i; touched = none i; marks = rows i; stale = false };
-      steps = c.try-patterns-steps.ensures.steps ∙ ap (λ (x : List Bool). all_steps m ps K.tried x (length K.marks) (length ps)) c.spread.ensures.items ∙ all_stepped m ps K (paired c.args.self.now);
+      steps = c.try_patterns-steps.ensures.steps ∙ ap (λ (x : List Bool). all_steps m ps K.tried x (length K.marks) (length ps)) c.spread.ensures.items ∙ all_stepped m ps K (paired c.args.self.now);
     }

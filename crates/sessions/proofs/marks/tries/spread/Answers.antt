@@ -27,8 +27,8 @@ loop-place-preserved g c =
     let one : c.loop-place.place ≡ c.loop-place.place - 1 + 1 = omega arith in
     let inside : c.loop-place.place - 1 < length (vec_items c.loop-place.touched) = omega (arith, c.loop-place.touched.ok.0, c.loop-place.invariant.0, c.loop-place.auto.place, c.len-place.ensures) in
     let read : c.index.result.now ≡ get_or (vec_items c.args.touched.now) (c.loop-place.place - 1) false = get_or_read (vec_items c.loop-place.touched) (c.loop-place.place - 1) c.index.result.now inside c.index.ensures false ∙ c.loop-place.invariant.1 (c.loop-place.place - 1) (omega arith) in
-    let near : Nearest (vec_items c.args.touched.now) (c.loop-place.place - 1) c.nearest-of-nearest.result = subst (Nearest (vec_items c.args.touched.now) (c.loop-place.place - 1)) (sym c.nearest-of-nearest.ensures) (nearest_step u p c.index.result.now c.loop-place.nearest read (subst (λ (k : ℕ). Nearest (vec_items c.args.touched.now) k c.loop-place.nearest) one c.loop-place.invariant.3)) in
-    let value : c.reaches.result ≡ any (take (size_at m p) (drop p u)) = c.reaches.ensures ∙ ap (within c.nearest-of-nearest.result (c.loop-place.place - 1)) c.size-of.ensures ∙ sym (any_within u p (size_at m p) c.nearest-of-nearest.result near) in (
+    let near : Nearest (vec_items c.args.touched.now) (c.loop-place.place - 1) c.nearest_of-nearest.result = subst (Nearest (vec_items c.args.touched.now) (c.loop-place.place - 1)) (sym c.nearest_of-nearest.ensures) (nearest_step u p c.index.result.now c.loop-place.nearest read (subst (λ (k : ℕ). Nearest (vec_items c.args.touched.now) k c.loop-place.nearest) one c.loop-place.invariant.3)) in
+    let value : c.reaches.result ≡ any (take (size_at m p) (drop p u)) = c.reaches.ensures ∙ ap (within c.nearest_of-nearest.result (c.loop-place.place - 1)) c.size_of.ensures ∙ sym (any_within u p (size_at m p) c.nearest_of-nearest.result near) in (
       c.loop-place.invariant.0,
       (λ q h. get_or-set_other t p q c.reaches.result false (λ e. omega arith) ∙ c.loop-place.invariant.1 q (omega arith)),
       (λ q a b. ⊎_elim

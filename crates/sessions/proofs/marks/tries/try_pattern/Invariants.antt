@@ -8,6 +8,6 @@ use Rattle.sessions.proofs.marks.tries.try_pattern.Given as goal
 abbrev pub invariant-loop-place : goal.invariant-loop-place
 invariant-loop-place g l =
     (vec_len l.rows ≡ vec_len l.initial.rows)
-    × (vec_items l.rows ≡ tabulate (tried_row (g.T.Meant.meaning l.tree) (elements_of l.pattern.row) l.number l.is-new (vec_items l.touched) (vec_items l.initial.rows)) l.place ++ drop l.place (vec_items l.initial.rows))
-    × (l.steps ≡ tried_steps (g.T.Meant.meaning l.tree) (elements_of l.pattern.row) l.is-new (vec_items l.touched) l.place)
+    × (vec_items l.rows ≡ tabulate (tried_row (g.T.Meant.meaning l.tree) (elements_of l.pattern.row) l.number l.is_new (vec_items l.touched) (vec_items l.initial.rows)) l.place ++ drop l.place (vec_items l.initial.rows))
+    × (l.steps ≡ tried_steps (g.T.Meant.meaning l.tree) (elements_of l.pattern.row) l.is_new (vec_items l.touched) l.place)
     × (l.steps ≤ 8192 * l.place)

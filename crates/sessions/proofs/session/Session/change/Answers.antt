@@ -12,10 +12,10 @@ returns-in-Err g c =
     let s = c.args.self.now in
     let j = s.journal in
     let v : State = view g.T.Meant.meaning s in
-    let read = label_inside v.tree c.args.place c.in-ok-old.old c.in-ok-old.ensures in
+    let read = label_inside v.tree c.args.place c.in_ok-old.old c.in_ok-old.ensures in
     let wide = put_wide v.tree c.args.place c.args.label c.in-Err.refused read.0 c.in-Err.ensures.answer in
     let tree = c.in-Err.ensures.done in
-    let right : wrong v c.args.receipt.now.session ≡ false = sym c.if-is-wrong.ensures in
+    let right : wrong v c.args.receipt.now.session ≡ false = sym c.if-is_wrong.ensures in
     let b : j.pending ≡ true = sym (open_is j.pending (clicks_of j)) ∙ right_open v c.args.receipt.now.session right in
     let few : length (opened v) + total_changes v.journal.clicks < 256 = omega (arith, all_changes j.pending (clicks_of j) b, c.changes.ensures, c.if-changes-ge-CHANGES.false) in
     record {

@@ -9,8 +9,8 @@ use Rattle.sessions.proofs.session.Session.count_at.Goals.{then-marked, else-mar
 pub loop-pattern-init : goal.loop-pattern-init
 loop-pattern-init g c = refl
 
-pub overflow-add-count : goal.overflow-add-count
-overflow-add-count g c = omega (arith, c.loop-pattern.invariant, few_at (view g.T.Meant.meaning c.args.self.now) c.args.place c.loop-pattern.pattern, c.count-patterns.ensures.1)
+pub overflow_add-count : goal.overflow_add-count
+overflow_add-count g c = omega (arith, c.loop-pattern.invariant, few_at (view g.T.Meant.meaning c.args.self.now) c.args.place c.loop-pattern.pattern, c.count-patterns.ensures.1)
 
 pub loop-pattern-preserved : goal.loop-pattern-preserved
 loop-pattern-preserved g c =

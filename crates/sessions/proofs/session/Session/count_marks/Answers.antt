@@ -10,15 +10,15 @@ use Rattle.sessions.proofs.session.Session.count_marks.Goals as goal
 pub loop-place-init : goal.loop-place-init
 loop-place-init g c = refl
 
-pub overflow-add-count : goal.overflow-add-count
-overflow-add-count g c =
+pub overflow_add-count : goal.overflow_add-count
+overflow_add-count g c =
     let v : State = view g.T.Meant.meaning c.args.self.now in
     let s = c.args.self.now.shelf in
     let few : length v.patterns ≤ 16 = omega (arith, length-map (vec_items s.rows) elements_of, s.rows.ok.0, s.few) in
-    omega (arith, c.loop-place.invariant, few_marked v c.loop-place.place few, c.count-at-count.ensures.1, c.places-places.ensures.1)
+    omega (arith, c.loop-place.invariant, few_marked v c.loop-place.place few, c.count_at-count.ensures.1, c.places-places.ensures.1)
 
 pub loop-place-preserved : goal.loop-place-preserved
-loop-place-preserved g c = omega (arith, c.loop-place.invariant, c.count-at-count.ensures.0, counted_place (view g.T.Meant.meaning c.args.self.now) c.loop-place.place)
+loop-place-preserved g c = omega (arith, c.loop-place.invariant, c.count_at-count.ensures.0, counted_place (view g.T.Meant.meaning c.args.self.now) c.loop-place.place)
 
 pub returns : goal.returns
 returns g c =

@@ -14,8 +14,8 @@ room s i p n next from len e h q r = omega (arith, counted_more s i p e, at_most
 pub loop-pattern-init : goal.loop-pattern-init
 loop-pattern-init g c = (omega arith, sym (take-append-drop c.args.from c.args.out.now))
 
-pub offset-bounds-out-next : goal.offset-bounds-out-next
-offset-bounds-out-next g c =
+pub offset_bounds-out-next : goal.offset_bounds-out-next
+offset_bounds-out-next g c =
     let v : State = view g.T.Meant.meaning c.args.self.now in
     let inside : c.loop-pattern.next < length c.args.out.now = room v c.args.place c.loop-pattern.pattern (length v.patterns) c.loop-pattern.next c.args.from (length c.args.out.now) (sym c.if-marked.ensures) (omega (arith, c.count-patterns.ensures.0)) c.loop-pattern.invariant.0 c.requires.room in
     let long = c.loop-pattern.auto.out in
@@ -28,8 +28,8 @@ bounds-out-next g c =
     let long = c.loop-pattern.auto.out in
     search rules
 
-pub overflow-add-next : goal.overflow-add-next
-overflow-add-next g c =
+pub overflow_add-next : goal.overflow_add-next
+overflow_add-next g c =
     let v : State = view g.T.Meant.meaning c.args.self.now in
     let inside : c.loop-pattern.next < length c.args.out.now = room v c.args.place c.loop-pattern.pattern (length v.patterns) c.loop-pattern.next c.args.from (length c.args.out.now) (sym c.if-marked.ensures) (omega (arith, c.count-patterns.ensures.0)) c.loop-pattern.invariant.0 c.requires.room in
     let long = c.loop-pattern.auto.out in

@@ -8,8 +8,8 @@ use Rattle.sessions.proofs.session.Session.write_marks.Goals as goal
 pub loop-place-init : goal.loop-place-init
 loop-place-init g c = (refl, refl)
 
-pub write-at-next-requires : goal.write-at-next-requires
-write-at-next-requires g c =
+pub write_at-next-requires : goal.write_at-next-requires
+write_at-next-requires g c =
     let v : State = view g.T.Meant.meaning c.args.self.now in
     record {
       inside = omega (arith, c.places-places.ensures.0);
@@ -19,11 +19,11 @@ write-at-next-requires g c =
 pub loop-place-preserved : goal.loop-place-preserved
 loop-place-preserved g c =
     let v : State = view g.T.Meant.meaning c.args.self.now in
-    let r = c.write-at-next.result in (
-      omega (arith, c.loop-place.invariant.0, c.write-at-next.ensures.end, counted_place v c.loop-place.place),
-      c.write-at-next.ensures.written
-          ∙ written_place c.loop-place.out c.args.out.now (marked v c.loop-place.place) (marked_at v c.loop-place.place (length v.patterns)) c.loop-place.next c.write-at-next.result c.loop-place.invariant.0 c.write-at-next.ensures.end c.loop-place.invariant.1
-          ∙ ap (λ (fs : List (ℕ × ℕ)). fs ++ drop c.write-at-next.result c.args.out.now) (sym (placed_more v c.loop-place.place)),
+    let r = c.write_at-next.result in (
+      omega (arith, c.loop-place.invariant.0, c.write_at-next.ensures.end, counted_place v c.loop-place.place),
+      c.write_at-next.ensures.written
+          ∙ written_place c.loop-place.out c.args.out.now (marked v c.loop-place.place) (marked_at v c.loop-place.place (length v.patterns)) c.loop-place.next c.write_at-next.result c.loop-place.invariant.0 c.write_at-next.ensures.end c.loop-place.invariant.1
+          ∙ ap (λ (fs : List (ℕ × ℕ)). fs ++ drop c.write_at-next.result c.args.out.now) (sym (placed_more v c.loop-place.place)),
     )
 
 pub returns : goal.returns

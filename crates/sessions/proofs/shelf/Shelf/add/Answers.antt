@@ -14,18 +14,18 @@ one_more rows r old w i h = ⊎_elim
     (λ (l : length rows ≤ i). subst IsPattern (sym (get_or_push rows r no_row i (omega (arith, length_push rows r)))) w)
     (cases_lt i (length rows))
 
-pub push-reserved-requires : goal.push-reserved-requires
-push-reserved-requires c =
+pub push_reserved-requires : goal.push_reserved-requires
+push_reserved-requires c =
     let s = c.args.self.now in
     omega (arith, length-map (vec_items s.rows) elements_of, s.rows.ok.0, s.room, c.requires)
 
-pub invariant-of-self : goal.invariant-of-self
-invariant-of-self c =
+pub invariant_of-self : goal.invariant_of-self
+invariant_of-self c =
     let s = c.args.self.now in
-    let few : vec_len c.push-reserved.new.self ≤ 16 = omega (arith, length-map (vec_items s.rows) elements_of, s.rows.ok.0, c.requires, c.push-reserved.ensures.len) in
-    (search rules, (few, (∥∥₁_map s.kept (λ old. subst EachPattern (sym c.push-reserved.ensures.items) (one_more (vec_items s.rows) c.row.result old c.row.ensures.sound)), tt)))
+    let few : vec_len c.push_reserved.new.self ≤ 16 = omega (arith, length-map (vec_items s.rows) elements_of, s.rows.ok.0, c.requires, c.push_reserved.ensures.len) in
+    (search rules, (few, (∥∥₁_map s.kept (λ old. subst EachPattern (sym c.push_reserved.ensures.items) (one_more (vec_items s.rows) c.row.result old c.row.ensures.sound)), tt)))
 
 pub returns : goal.returns
 returns c =
     let s = c.args.self.now in
-    ap (map elements_of) c.push-reserved.ensures.items ∙ map_push elements_of (vec_items s.rows) c.row.result ∙ ap (λ r. map elements_of (vec_items s.rows) ++ (elements_of r ∷ [])) c.row.ensures.value
+    ap (map elements_of) c.push_reserved.ensures.items ∙ map_push elements_of (vec_items s.rows) c.row.result ∙ ap (λ r. map elements_of (vec_items s.rows) ++ (elements_of r ∷ [])) c.row.ensures.value

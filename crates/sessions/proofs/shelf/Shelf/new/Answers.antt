@@ -2,7 +2,7 @@
 use Rattle.std.proofs.Common.{length, ap, arith, rules}
 use Rattle.sessions.proofs.shelf.Shelf.new.Goals as goal
 
-pub invariant-of-result : goal.invariant-of-result
-invariant-of-result c =
-    let made = c.in-ok-rows.ensures in
+pub invariant_of-result : goal.invariant_of-result
+invariant_of-result c =
+    let made = c.in_ok-rows.ensures in
     (search rules, (search rules, (∣ (λ k h. absurd (omega (arith, ap length made.items))) ∣₁, tt)))

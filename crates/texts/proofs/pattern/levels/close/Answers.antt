@@ -11,12 +11,12 @@ use Rattle.texts.proofs.Lexing.{moves}
 use Rattle.texts.proofs.Scanning.{length_fine, stop_not_close, shuts, shuts-nothing, never-shut}
 use Rattle.texts.proofs.pattern.levels.close.Goals as goal
 
-pub returns-in-default : goal.returns-in-default
-returns-in-default c =
+pub returns-in_default : goal.returns-in_default
+returns-in_default c =
     let s = c.args.reader.now.text.now in
     let i = c.args.reader.now.at in
     let t = c.next.ensures.token in
-    let q = sym (stop_not_close c.next.result (ap stops t ∙ c.requires.stop) c.in-default.not-GroupClose) ∙ t in
+    let q = sym (stop_not_close c.next.result (ap stops t ∙ c.requires.stop) c.in_default.not-GroupClose) ∙ t in
     let m = moves s i c.args.reader.now.within in
     record {
       same = search rules;

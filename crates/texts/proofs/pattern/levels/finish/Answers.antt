@@ -7,12 +7,12 @@ use Rattle.texts.specs.PatternSteps.{stops, names_in}
 use Rattle.texts.proofs.Scanning.{length_fine, stop_not_end, ends, ends-empty, never-open}
 use Rattle.texts.proofs.pattern.levels.finish.Goals as goal
 
-pub returns-in-default : goal.returns-in-default
-returns-in-default c =
+pub returns-in_default : goal.returns-in_default
+returns-in_default c =
     let s = c.args.reader.now.text.now in
     let i = c.args.reader.now.at in
     let t = c.next.ensures.token in
-    let q = sym (stop_not_end c.next.result (ap stops t ∙ c.requires.stop) c.in-default.not-End) ∙ t in
+    let q = sym (stop_not_end c.next.result (ap stops t ∙ c.requires.stop) c.in_default.not-End) ∙ t in
     λ es x. never-open es s i (elements_of c.args.row.now) (names_in s x) q ∙ ap (λ (b : ℕ). Err (pattern_fault Unpaired b)) (sym c.next.ensures.start)
 
 pub returns-then-row-eq0 : goal.returns-then-row-eq0

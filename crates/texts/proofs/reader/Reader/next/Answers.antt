@@ -7,9 +7,9 @@ pub returns-then-start-text : goal.returns-then-start-text
 unfolding next_token
 returns-then-start-text c = search rules
 
-pub returns-then-is-of : goal.returns-then-is-of
+pub returns-then-is_of : goal.returns-then-is_of
 unfolding next_token
-returns-then-is-of c = search rules
+returns-then-is_of c = search rules
 
 pub returns-in-39 : goal.returns-in-39
 unfolding next_token
@@ -23,6 +23,6 @@ pub returns-in-33-to-126 : goal.returns-in-33-to-126
 unfolding next_token
 returns-in-33-to-126 c = search rules
 
-pub returns-in-default : goal.returns-in-default
+pub returns-in_default : goal.returns-in_default
 unfolding next_token
-returns-in-default c = search rules
+returns-in_default c = search rules

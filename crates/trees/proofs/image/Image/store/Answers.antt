@@ -10,8 +10,8 @@ pub bounds-self-place : goal.bounds-self-place
 bounds-self-place c = omega (arith, many c.args.self.now.bytes.now)
 
 -- between the two writes the label has the new low byte and the old high one
-pub invariant-of-self : goal.invariant-of-self
-invariant-of-self c =
+pub invariant_of-self : goal.invariant_of-self
+invariant_of-self c =
     let s = c.args.self.now in
     let bs = s.bytes.now in
     let p = c.args.place in
@@ -26,8 +26,8 @@ bounds-self-place-2 c =
     let bs = c.args.self.now.bytes.now in
     omega (arith, many bs, length-set bs (6 * c.args.place + 4) (c.args.label % 256))
 
-pub invariant-of-self-2 : goal.invariant-of-self-2
-invariant-of-self-2 c =
+pub invariant_of-self-2 : goal.invariant_of-self-2
+invariant_of-self-2 c =
     let s = c.args.self.now in
     let bs = s.bytes.now in
     let p = c.args.place in

@@ -19,14 +19,14 @@ loop-place-preserved c =
     let bs = c.args.bytes.now in
     let p = c.loop-place.place in
     let k = c.pop-depth.result in
-    let here : image_fault bs p ≡ None = walk_fault bs p c.loop-place.used k c.innermost-end.result c.loop-place.ends _ c.loop-place.invariant.1 c.pop-depth.ensures.ends c.innermost-end.ensures c.in-default.ensures.value in
-    let f : Fit bs p k c.innermost-end.result = fit bs p k c.innermost-end.result (sym c.in-default.ensures.value) in
+    let here : image_fault bs p ≡ None = walk_fault bs p c.loop-place.used k c.innermost-end.result c.loop-place.ends _ c.loop-place.invariant.1 c.pop-depth.ensures.ends c.innermost-end.ensures c.in_default.ensures.value in
+    let f : Fit bs p k c.innermost-end.result = fit bs p k c.innermost-end.result (sym c.in_default.ensures.value) in
     let clean = below_more _ _ c.loop-place.invariant.0 here in (
       clean,
-      walk_more bs p c.loop-place.used k (p + c.length-at.result / 6) c.loop-place.ends (omega (arith, f.room)) clean c.loop-place.invariant.1 c.pop-depth.ensures.ends (omega (arith, f.low, c.loop-place.invariant.3)) (ap (λ n. p + n / 6) c.length-at.ensures.value),
+      walk_more bs p c.loop-place.used k (p + c.length_at.result / 6) c.loop-place.ends (omega (arith, f.room)) clean c.loop-place.invariant.1 c.pop-depth.ensures.ends (omega (arith, f.low, c.loop-place.invariant.3)) (ap (λ n. p + n / 6) c.length_at.ensures.value),
       omega (arith, f.low),
-      length-set c.loop-place.ends k (p + c.length-at.result / 6) ∙ c.loop-place.invariant.3,
-      below_more _ _ c.loop-place.invariant.4 (c.in-default.ensures.bytes refl),
+      length-set c.loop-place.ends k (p + c.length_at.result / 6) ∙ c.loop-place.invariant.3,
+      below_more _ _ c.loop-place.invariant.4 (c.in_default.ensures.bytes refl),
     )
 
 pub returns : goal.returns

@@ -8,6 +8,6 @@ use Rattle.trees.proofs.outline.Outline.new.Goals as goal
 pub returns : goal.returns
 returns c =
     let rs = c.args.records.now in
-    let flag : c.is-ok-sound.result ≡ is_ok (outline_answer rs) = search rules in
-    let meaning : kept c.is-ok-sound.result (outline_nodes rs) 0 ≡ outline_meaning rs = ap (λ s. kept s (outline_nodes rs) 0) flag in
+    let flag : c.is_ok-sound.result ≡ is_ok (outline_answer rs) = search rules in
+    let meaning : kept c.is_ok-sound.result (outline_nodes rs) 0 ≡ outline_meaning rs = ap (λ s. kept s (outline_nodes rs) 0) flag in
     record { meaning = meaning; same = λ m h e. meaning ∙ outline_meant rs m h e; untouched = refl }

@@ -17,7 +17,7 @@ pub loop-i-preserved : goal.loop-i-preserved
 loop-i-preserved c =
     let rs = c.args.records.now in
     let i = c.loop-i.i in
-    let here : outline_fault rs i ≡ None = ap (λ l. record_fault i l (get_or rs i no_record)) (sym c.loop-i.invariant.1) ∙ sym c.in-default.ensures in
+    let here : outline_fault rs i ≡ None = ap (λ l. record_fault i l (get_or rs i no_record)) (sym c.loop-i.invariant.1) ∙ sym c.in_default.ensures in
     let f = fine i (depth_limit rs i) (get_or rs i no_record) here in
     (below_more _ _ c.loop-i.invariant.0 here, sym (ap (depth_limit rs) (add-one i)), omega (arith, f.low))
 

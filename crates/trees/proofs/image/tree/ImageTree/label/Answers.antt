@@ -6,8 +6,8 @@ use Rattle.trees.specs.Imaging.{at}
 use Rattle.trees.specs.ImagePuts.{length_kept}
 use Rattle.trees.proofs.image.tree.ImageTree.label.Goals as goal
 
-pub label-at-requires : goal.label-at-requires
-label-at-requires c = let s = c.args.self.now in omega (arith, length_kept s.sound s.bytes.now s.leaf c.if-self.true)
+pub label_at-requires : goal.label_at-requires
+label_at-requires c = let s = c.args.self.now in omega (arith, length_kept s.sound s.bytes.now s.leaf c.if-self.true)
 
 pub returns-then-self : goal.returns-then-self
 returns-then-self c =

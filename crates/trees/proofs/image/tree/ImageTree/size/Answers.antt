@@ -6,8 +6,8 @@ use Rattle.trees.specs.Imaging.{at}
 use Rattle.trees.specs.ImagePuts.{length_kept}
 use Rattle.trees.proofs.image.tree.ImageTree.size.Goals as goal
 
-pub length-at-requires : goal.length-at-requires
-length-at-requires c = let s = c.args.self.now in omega (arith, length_kept s.sound s.bytes.now s.leaf c.if-self.true)
+pub length_at-requires : goal.length_at-requires
+length_at-requires c = let s = c.args.self.now in omega (arith, length_kept s.sound s.bytes.now s.leaf c.if-self.true)
 
 pub returns-then-self : goal.returns-then-self
 returns-then-self c =

@@ -6,13 +6,13 @@ use Rattle.trees.proofs.outline.tree.OutlineChangeableTree.put.Goals as goal
 pub bounds-self-place : goal.bounds-self-place
 bounds-self-place c = let s = c.args.self.now in omega (arith, length_kept s.sound s.records.now s.leaf c.if-self.true)
 
-pub offset-bounds-self-place : goal.offset-bounds-self-place
-offset-bounds-self-place c =
+pub offset_bounds-self-place : goal.offset_bounds-self-place
+offset_bounds-self-place c =
     let s = c.args.self.now in
     omega (arith, few_kept s.sound s.records.now c.if-self.true s.checked, length_kept s.sound s.records.now s.leaf c.if-self.true)
 
-pub invariant-of-self : goal.invariant-of-self
-invariant-of-self c =
+pub invariant_of-self : goal.invariant_of-self
+invariant_of-self c =
     let s = c.args.self.now in
     (c.if-self.true ∙ sym (sound_stored s.records.now c.args.place c.args.label (omega arith) (sym s.checked ∙ c.if-self.true)), (s.low, tt))
 

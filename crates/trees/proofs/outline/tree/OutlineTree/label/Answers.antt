@@ -9,8 +9,8 @@ use Rattle.trees.proofs.outline.tree.OutlineTree.label.Goals as goal
 pub bounds-self-place : goal.bounds-self-place
 bounds-self-place c = let s = c.args.self.now in omega (arith, length_kept s.sound s.records.now s.leaf c.if-self.true)
 
-pub offset-bounds-self-place : goal.offset-bounds-self-place
-offset-bounds-self-place c =
+pub offset_bounds-self-place : goal.offset_bounds-self-place
+offset_bounds-self-place c =
     let s = c.args.self.now in
     omega (arith, few_kept s.sound s.records.now c.if-self.true s.checked, length_kept s.sound s.records.now s.leaf c.if-self.true)
 
