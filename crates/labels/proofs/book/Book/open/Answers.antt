@@ -17,7 +17,7 @@ invariant_of-result-in-Err c =
     let x = c.new.result in
     let r = c.new.ensures.right bs in
     let none : known bs x ≡ [] = ap (noted bs x.starts) c.new.ensures.none in
-    (r.few, (r.whole, (r.heads, (r.links, (ap pairs (none ∙ sym (entries_err bs c.in-Err.refusal c.in-Err.ensures)), tt)))))
+    record { few = r.few; whole = r.whole; heads = r.heads; links = r.links; listed = ap pairs (none ∙ sym (entries_err bs c.in-Err.refusal c.in-Err.ensures)) }
 
 pub returns-in-Ok : goal.returns-in-Ok
 returns-in-Ok c =

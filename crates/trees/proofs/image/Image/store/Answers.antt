@@ -19,7 +19,7 @@ invariant_of-self c =
     let t : is_ok (image_answer bs) ≡ true = sym s.checked ∙ flag in
     let h : p < length bs / 6 = omega (arith, many bs) in
     let old : get_or bs (6 * p + 4) 0 + 256 * get_or bs (6 * p + 5) 0 < 32768 = ((taken bs t).each p (omega arith)).small in
-    (flag ∙ sym (sound_stored bs _ p _ (omega arith) (low_stored bs p (c.args.label % 256) h) t), (s.low, tt))
+    record { checked = flag ∙ sym (sound_stored bs _ p _ (omega arith) (low_stored bs p (c.args.label % 256) h) t); low = s.low }
 
 pub bounds-self-place-2 : goal.bounds-self-place-2
 bounds-self-place-2 c =
@@ -33,7 +33,7 @@ invariant_of-self-2 c =
     let p = c.args.place in
     let flag = c.requires.1.1.1 in
     let h : p < length bs / 6 = omega (arith, many bs) in
-    (flag ∙ sym (sound_stored bs _ p _ (omega arith) (both_stored bs p (c.args.label % 256) (c.args.label / 256) h) (sym s.checked ∙ flag)), (s.low, tt))
+    record { checked = flag ∙ sym (sound_stored bs _ p _ (omega arith) (both_stored bs p (c.args.label % 256) (c.args.label / 256) h) (sym s.checked ∙ flag)); low = s.low }
 
 pub returns : goal.returns
 returns c =

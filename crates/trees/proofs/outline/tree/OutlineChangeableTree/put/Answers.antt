@@ -14,7 +14,7 @@ offset_bounds-self-place c =
 pub invariant_of-self : goal.invariant_of-self
 invariant_of-self c =
     let s = c.args.self.now in
-    (c.if-self.true ∙ sym (sound_stored s.records.now c.args.place c.args.label (omega arith) (sym s.checked ∙ c.if-self.true)), (s.low, tt))
+    record { checked = c.if-self.true ∙ sym (sound_stored s.records.now c.args.place c.args.label (omega arith) (sym s.checked ∙ c.if-self.true)); low = s.low }
 
 pub returns-then-self : goal.returns-then-self
 returns-then-self c =
