@@ -39,12 +39,12 @@ returns-else-match_level g c =
 
 pub returns-in_err-label : goal.returns-in_err-label
 returns-in_err-label g c =
-    let p = err_from_is_err_and c.from-residual.result c.from-residual.ensures.1 in
-    let e : c.from-residual.result ≡ match_answer (g.T.Meant.meaning c.args.tree.now) (elements_of c.args.pattern.now.row) c.args.place = p.1 ∙ ap (λ (x : Refusal). Err x) p.2 ∙ label_refused (g.T.Meant.meaning c.args.tree.now) (elements_of c.args.pattern.now.row) c.args.place c.in_err-label.field-0.0 c.in_err-label.ensures in
+    let p = err_from_is_err_and c.from_residual.result c.from_residual.ensures.1 in
+    let e : c.from_residual.result ≡ match_answer (g.T.Meant.meaning c.args.tree.now) (elements_of c.args.pattern.now.row) c.args.place = p.1 ∙ ap (λ (x : Refusal). Err x) p.2 ∙ label_refused (g.T.Meant.meaning c.args.tree.now) (elements_of c.args.pattern.now.row) c.args.place c.in_err-label.field-0.0 c.in_err-label.ensures in
     record { answer = e; laws = laws-hold (g.T.Meant.meaning c.args.tree.now) (g.T.Meant.lawful c.args.tree.now) (elements_of c.args.pattern.now.row) (kept c.args.pattern.now).formed c.args.place _ e }
 
 pub returns-in_err-size : goal.returns-in_err-size
 returns-in_err-size g c =
-    let p = err_from_is_err_and c.from-residual-in_err-size.result c.from-residual-in_err-size.ensures.1 in
-    let e : c.from-residual-in_err-size.result ≡ match_answer (g.T.Meant.meaning c.args.tree.now) (elements_of c.args.pattern.now.row) c.args.place = p.1 ∙ ap (λ (x : Refusal). Err x) p.2 ∙ size_refused (g.T.Meant.meaning c.args.tree.now) (elements_of c.args.pattern.now.row) c.args.place c.in_err-size.field-0.0 c.in_err-size.ensures in
+    let p = err_from_is_err_and c.from_residual-in_err-size.result c.from_residual-in_err-size.ensures.1 in
+    let e : c.from_residual-in_err-size.result ≡ match_answer (g.T.Meant.meaning c.args.tree.now) (elements_of c.args.pattern.now.row) c.args.place = p.1 ∙ ap (λ (x : Refusal). Err x) p.2 ∙ size_refused (g.T.Meant.meaning c.args.tree.now) (elements_of c.args.pattern.now.row) c.args.place c.in_err-size.field-0.0 c.in_err-size.ensures in
     record { answer = e; laws = laws-hold (g.T.Meant.meaning c.args.tree.now) (g.T.Meant.lawful c.args.tree.now) (elements_of c.args.pattern.now.row) (kept c.args.pattern.now).formed c.args.place _ e }

@@ -34,7 +34,7 @@ returns-in_ok-record c =
     let m2 = moves s (next_token s i).to m.inner in
     let j : c.opens.new.reader.at ≡ (next_token s (next_token s i).to).to = cc in
     let f = m.forward (ap is_end (sym q)) in
-    let st : c.start-start.result ≡ (next_token s i).start = c.start-start.ensures ∙ c.next_token.ensures.start in
+    let st : c.start-start.result ≡ (next_token s i).start = c.start-start.ensures ∙ c.next-token.ensures.start in
     record {
       same = search rules;
       stepped = (
@@ -57,8 +57,8 @@ returns-in_err-record c =
     let w = c.in-Word.word.now in
     let q = c.in-Word.ensures.token in
     let o : is_open (next_token s (next_token s i).to).what ≡ true = cc in
-    let st : c.start-start.result ≡ (next_token s i).start = c.start-start.ensures ∙ c.next_token.ensures.start in
-    let p = err_from_is_err_and c.from-residual.result c.from-residual.ensures.1 in
+    let st : c.start-start.result ≡ (next_token s i).start = c.start-start.ensures ∙ c.next-token.ensures.start in
+    let p = err_from_is_err_and c.from_residual.result c.from_residual.ensures.1 in
     rw (p.1, p.2) (record {
       same = search rules;
       stepped = λ rs l.
@@ -74,8 +74,8 @@ returns-in_err-record-2 c =
     let es = entries c.args.book.now.bytes.now in
     let w = c.in-Quoted.name.now in
     let q = c.in-Quoted.ensures.token in
-    let st : c.start-start.result ≡ (next_token s i).start = c.start-start.ensures ∙ c.next_token.ensures.start in
-    let p = err_from_is_err_and c.from-residual-in_err-record-2.result c.from-residual-in_err-record-2.ensures.1 in
+    let st : c.start-start.result ≡ (next_token s i).start = c.start-start.ensures ∙ c.next-token.ensures.start in
+    let p = err_from_is_err_and c.from_residual-in_err-record-2.result c.from_residual-in_err-record-2.ensures.1 in
     rw (p.1, p.2) (record {
       same = search rules;
       stepped = λ rs l.
@@ -105,7 +105,7 @@ returns-in_ok-record-2 c =
     let q = c.in-Quoted.ensures.token in
     let m = moves s i c.args.reader.now.within in
     let f = m.forward (ap is_end (sym q)) in
-    let st : c.start-start.result ≡ (next_token s i).start = c.start-start.ensures ∙ c.next_token.ensures.start in
+    let st : c.start-start.result ≡ (next_token s i).start = c.start-start.ensures ∙ c.next-token.ensures.start in
     record {
       same = search rules;
       stepped = (
@@ -113,9 +113,9 @@ returns-in_ok-record-2 c =
             let r = c.in_ok-record-2.record in
             let a = ap (λ (k : ℕ). node_answer es n.depth k w (next_token s i).start) l ∙ ap (node_answer es n.depth n.count w) (sym st) ∙ sym c.node-in-Quoted.ensures ∙ c.in_ok-record-2.was in
             quoted-node es s i n.depth n.empty rs c.args.reader.now.within w r q a
-            ∙ ap (λ (k : ℕ). tree_scan es n.depth false (rs ++ (r ∷ [])) (tokens_from s k)) (sym c.next_token.ensures.moved),
+            ∙ ap (λ (k : ℕ). tree_scan es n.depth false (rs ++ (r ∷ [])) (tokens_from s k)) (sym c.next-token.ensures.moved),
         refl,
-        omega (arith, c.next_token.ensures.moved),
+        omega (arith, c.next-token.ensures.moved),
       );
     }
 
@@ -134,9 +134,9 @@ returns-in_default c =
       stepped = (
         λ rs l.
             sign-step es s i n.depth n.empty rs c.args.reader.now.within c.in-Sign.byte q k
-            ∙ ap (λ (k : ℕ). tree_scan es (n.depth - 1) false rs (tokens_from s k)) (sym c.next_token.ensures.moved),
+            ∙ ap (λ (k : ℕ). tree_scan es (n.depth - 1) false rs (tokens_from s k)) (sym c.next-token.ensures.moved),
         refl,
-        omega (arith, c.next_token.ensures.moved),
+        omega (arith, c.next-token.ensures.moved),
       );
     }
 
@@ -171,8 +171,8 @@ returns-in-Variable c =
     let s = c.args.reader.now.text.now in
     let i = c.args.reader.now.at in
     let es = entries c.args.book.now.bytes.now in
-    let q = c.next_token.ensures.token in
-    let st : Err c.refusal-in-Variable.result ≡ Err (tree_fault BadText (next_token s i).start) = ap Err (c.refusal-in-Variable.ensures ∙ ap (tree_fault BadText) (c.start-start.ensures ∙ c.next_token.ensures.start)) in
+    let q = c.next-token.ensures.token in
+    let st : Err c.refusal-in-Variable.result ≡ Err (tree_fault BadText (next_token s i).start) = ap Err (c.refusal-in-Variable.ensures ∙ ap (tree_fault BadText) (c.start-start.ensures ∙ c.next-token.ensures.start)) in
     record {
       same = search rules;
       stepped = λ rs l.

@@ -9,7 +9,7 @@ use Rattle.texts.proofs.tree.count_nodes.Goals as goal
 pub loop-found-init : goal.loop-found-init
 loop-found-init c = (c.new-reader.ensures.text, ([], begins (entries c.args.book.now.bytes.now) c.args.text.now c.new-reader.result.at c.new-reader.ensures.at))
 
-on : (c : goal.In-default) → Reached (entries c.args.book.now.bytes.now) c.args.text.now c.step.new.nest c.step.new.reader.at × (c.loop-found.reader.at < c.step.new.reader.at)
+on : (c : goal.In_default) → Reached (entries c.args.book.now.bytes.now) c.args.text.now c.step.new.nest c.step.new.reader.at × (c.loop-found.reader.at < c.step.new.reader.at)
 on c =
     goes_on (entries c.args.book.now.bytes.now) c.args.text.now c.loop-found.reader.text.now c.loop-found.invariant.0 c.loop-found.nest c.loop-found.reader.at c.step.new.nest c.step.new.reader.at
     c.in_ok-found.found c.in_default.not-Done c.in_ok-found.ensures.stepped c.loop-found.invariant.1
@@ -33,5 +33,5 @@ returns-in-Done c =
 pub returns-in_err-found : goal.returns-in_err-found
 returns-in_err-found c =
     let h = c.loop-found.invariant.1 in
-    let p = err_from_is_err_and c.from-residual.result c.from-residual.ensures.1 in
+    let p = err_from_is_err_and c.from_residual.result c.from_residual.ensures.1 in
     rw (p.1, p.2) (err-on (entries c.args.book.now.bytes.now) c.args.text.now c.loop-found.reader.text.now c.loop-found.invariant.0 c.loop-found.nest c.loop-found.reader.at c.step.new.nest c.step.new.reader.at h.0 h.1 c.in_err-found.field-0.0 c.in_err-found.ensures.stepped)

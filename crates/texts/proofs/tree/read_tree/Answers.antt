@@ -12,7 +12,7 @@ pub returns-in_err-count : goal.returns-in_err-count
 returns-in_err-count c =
     let b = counted_ok c.args.book.now c.in_ok-checked.field-0 (sym c.open-checked.ensures.check ∙ c.in_ok-checked.was) in
     let e = ap (λ x. tree_scan (entries x) 0 false [] (tokens c.args.text.now)) (sym c.open-checked.ensures.book) ∙ c.in_err-count.ensures in
-    let p = err_from_is_err_and c.from-residual-in_err-count.result c.from-residual-in_err-count.ensures.1 in
+    let p = err_from_is_err_and c.from_residual-in_err-count.result c.from_residual-in_err-count.ensures.1 in
     record {
       value = p.1 ∙ ap Err p.2 ∙ sym (answered (read_book c.args.book.now) (entries c.args.book.now) (tokens c.args.text.now) (length c.args.records.now) (Err c.in_err-count.field-0.0) b e);
       written = sym (slotted (read_book c.args.book.now) (entries c.args.book.now) (tokens c.args.text.now) c.args.records.now (Err c.in_err-count.field-0.0) b e);

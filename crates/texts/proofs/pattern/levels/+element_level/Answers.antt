@@ -19,8 +19,8 @@ element-returns-then-depth-ge-MOST_GROUPS t c =
     let f = (moves s i c.args.reader.now.within).forward (ap is_end (sym q)) in
     record {
       same = search rules;
-      forward = omega (arith, c.next_token.ensures.moved);
-      went = deep (entries c.args.book.now.bytes.now) s c.args.depth c.args.row.now c.args.names.now i c.requires.fine c.args.reader.now.within _ _ c.next_token.ensures.moved c.next_token.ensures.start q (omega arith);
+      forward = omega (arith, c.next-token.ensures.moved);
+      went = deep (entries c.args.book.now.bytes.now) s c.args.depth c.args.row.now c.args.names.now i c.requires.fine c.args.reader.now.within _ _ c.next-token.ensures.moved c.next-token.ensures.start q (omega arith);
     }
 
 pub element-returns-in_err-put : goal.element-returns-in_err-put
@@ -29,25 +29,25 @@ element-returns-in_err-put t c =
     let i = c.args.reader.now.at in
     let q = c.in-GroupOpen.ensures.token in
     let f = (moves s i c.args.reader.now.within).forward (ap is_end (sym q)) in
-    let p = err_from_is_err_and c.from-residual.result c.from-residual.ensures.1 in
-    let w = no_room (entries c.args.book.now.bytes.now) s c.args.depth c.args.row.now c.args.names.now i c.requires.fine c.args.reader.now.within _ _ c.next_token.ensures.moved c.next_token.ensures.start q (omega arith) c.in_err-put.ensures.0 in
+    let p = err_from_is_err_and c.from_residual.result c.from_residual.ensures.1 in
+    let w = no_room (entries c.args.book.now.bytes.now) s c.args.depth c.args.row.now c.args.names.now i c.requires.fine c.args.reader.now.within _ _ c.next-token.ensures.moved c.next-token.ensures.start q (omega arith) c.in_err-put.ensures.0 in
     rw (p.1, p.2) (record {
       same = search rules;
-      forward = omega (arith, c.next_token.ensures.moved);
-      went = λ gs l. w gs l ∙ ap (λ k. Err (pattern_fault k c.next_token.new.self.start)) (sym c.in_err-put.ensures.1);
+      forward = omega (arith, c.next-token.ensures.moved);
+      went = λ gs l. w gs l ∙ ap (λ k. Err (pattern_fault k c.next-token.new.self.start)) (sym c.in_err-put.ensures.1);
     })
 
-pub element_level-requires : goal.element_level-requires
-element_level-requires t c =
+pub element-level-requires : goal.element-level-requires
+element-level-requires t c =
     let s = c.args.reader.now.text.now in
     let i = c.args.reader.now.at in
     let q = c.in-GroupOpen.ensures.token in
     let m = moves s i c.args.reader.now.within in
     let f = m.forward (ap is_end (sym q)) in
-    let e = ap (λ z. z.now) c.next_token.ensures.same in
+    let e = ap (λ z. z.now) c.next-token.ensures.same in
     let p = c.in_ok-put.ensures in
-    let longs : length c.next_token.new.self.text.now ≡ length s = ap length e in
-    (omega (arith, longs, m.inner, c.next_token.ensures.moved), (record { few = omega (arith, p.0, p.2); full = p.3 }, (subst (λ (z : List ℕ). LieIn z c.args.names.now) (sym e) c.requires.lie, omega arith)))
+    let longs : length c.next-token.new.self.text.now ≡ length s = ap length e in
+    (omega (arith, longs, m.inner, c.next-token.ensures.moved), (record { few = omega (arith, p.0, p.2); full = p.3 }, (subst (λ (z : List ℕ). LieIn z c.args.names.now) (sym e) c.requires.lie, omega arith)))
 
 pub element-returns-in_err-level : goal.element-returns-in_err-level
 element-returns-in_err-level t c =
@@ -56,16 +56,16 @@ element-returns-in_err-level t c =
     let es = entries c.args.book.now.bytes.now in
     let q = c.in-GroupOpen.ensures.token in
     let f = (moves s i c.args.reader.now.within).forward (ap is_end (sym q)) in
-    let e = ap (λ z. z.now) c.next_token.ensures.same in
-    let p = err_from_is_err_and c.from-residual-in_err-level.result c.from-residual-in_err-level.ensures.1 in
+    let e = ap (λ z. z.now) c.next-token.ensures.same in
+    let p = err_from_is_err_and c.from_residual-in_err-level.result c.from_residual-in_err-level.ensures.1 in
     let put = c.in_ok-put.ensures in
-    let o = opens es s c.args.depth c.args.row.now c.args.names.now i c.requires.fine c.args.reader.now.within _ _ c.next_token.ensures.moved c.next_token.ensures.start q c.put.new.row (omega arith) put.0 put.1 in
+    let o = opens es s c.args.depth c.args.row.now c.args.names.now i c.requires.fine c.args.reader.now.within _ _ c.next-token.ensures.moved c.next-token.ensures.start q c.put.new.row (omega arith) put.0 put.1 in
     rw (p.1, p.2) (record {
-      same = c.level.ensures.same ∙ c.next_token.ensures.same;
-      forward = omega (arith, c.next_token.ensures.moved, c.level.ensures.forward);
+      same = c.level.ensures.same ∙ c.next-token.ensures.same;
+      forward = omega (arith, c.next-token.ensures.moved, c.level.ensures.forward);
       went = λ gs l.
           o gs l
-          ∙ ap (λ (z : List ℕ). scan_on es z c.put.new.row c.args.names.now (c.args.row.now.count ∷ gs) c.next_token.new.self.at) (sym e)
+          ∙ ap (λ (z : List ℕ). scan_on es z c.put.new.row c.args.names.now (c.args.row.now.count ∷ gs) c.next-token.new.self.at) (sym e)
           ∙ c.in_err-level.ensures.went (c.args.row.now.count ∷ gs) (omega arith);
     })
 
@@ -76,31 +76,31 @@ element-returns-in-GroupOpen t c =
     let es = entries c.args.book.now.bytes.now in
     let q = c.in-GroupOpen.ensures.token in
     let f = (moves s i c.args.reader.now.within).forward (ap is_end (sym q)) in
-    let e = ap (λ z. z.now) c.next_token.ensures.same in
+    let e = ap (λ z. z.now) c.next-token.ensures.same in
     let e2 = ap (λ z. z.now) c.level.ensures.same ∙ e in
     let put = c.in_ok-put.ensures in
-    let moved : Moved es s (c.args.depth + 1) c.put.new.row c.args.names.now c.next_token.new.self.at c.level.new.row c.level.new.names c.level.new.reader.at =
-    subst (λ (z : List ℕ). Moved es z (c.args.depth + 1) c.put.new.row c.args.names.now c.next_token.new.self.at c.level.new.row c.level.new.names c.level.new.reader.at) e c.in_ok-level.ensures.went in
+    let moved : Moved es s (c.args.depth + 1) c.put.new.row c.args.names.now c.next-token.new.self.at c.level.new.row c.level.new.names c.level.new.reader.at =
+    subst (λ (z : List ℕ). Moved es z (c.args.depth + 1) c.put.new.row c.args.names.now c.next-token.new.self.at c.level.new.row c.level.new.names c.level.new.reader.at) e c.in_ok-level.ensures.went in
     let shut : Shut es s c.args.row.now.count c.level.new.row c.level.new.names c.level.new.reader.at c.close.new.row c.close.new.reader.at c.close.new.reader.start c.close.result =
     subst (λ (z : List ℕ). Shut es z c.args.row.now.count c.level.new.row c.level.new.names c.level.new.reader.at c.close.new.row c.close.new.reader.at c.close.new.reader.start c.close.result) e2 (c.close.ensures.shut es c.level.new.names) in
     record {
-      same = c.close.ensures.same ∙ c.level.ensures.same ∙ c.next_token.ensures.same;
-      forward = omega (arith, c.next_token.ensures.moved, c.level.ensures.forward, c.close.ensures.forward);
-      went = grouped es s c.args.depth c.args.row.now c.args.names.now i c.requires.fine c.args.reader.now.within _ _ c.next_token.ensures.moved c.next_token.ensures.start q c.put.new.row c.level.new.row c.close.new.row c.level.new.names c.level.new.reader.at c.close.new.reader.at c.close.new.reader.start c.close.result (omega arith) put.0 put.1 put.2 moved shut;
+      same = c.close.ensures.same ∙ c.level.ensures.same ∙ c.next-token.ensures.same;
+      forward = omega (arith, c.next-token.ensures.moved, c.level.ensures.forward, c.close.ensures.forward);
+      went = grouped es s c.args.depth c.args.row.now c.args.names.now i c.requires.fine c.args.reader.now.within _ _ c.next-token.ensures.moved c.next-token.ensures.start q c.put.new.row c.level.new.row c.close.new.row c.level.new.names c.level.new.reader.at c.close.new.reader.at c.close.new.reader.start c.close.result (omega arith) put.0 put.1 put.2 moved shut;
     }
 
 pub element-leaf-requires : goal.element-leaf-requires
 element-leaf-requires t c =
     let s = c.args.reader.now.text.now in
     let i = c.args.reader.now.at in
-    let e = c.text-text.ensures ∙ ap (λ z. z.now) c.next_token.ensures.same in
-    let a = c.at-end.ensures ∙ c.next_token.ensures.moved in
+    let e = c.text-text.ensures ∙ ap (λ z. z.now) c.next-token.ensures.same in
+    let a = c.at-end.ensures ∙ c.next-token.ensures.moved in
     record {
       lie = subst (λ (z : List ℕ). LieIn z c.args.names.now) (sym e) c.requires.lie;
       token =
-          subst (λ (z : List ℕ). EndsAt z (shape c.next_token.result) c.at-end.result) (sym e)
-          (subst (λ (k : ℕ). EndsAt s (shape c.next_token.result) k) (sym a)
-          (subst (λ x. EndsAt s x (next_token s i).to) (sym c.next_token.ensures.token) (name_ends s i)));
+          subst (λ (z : List ℕ). EndsAt z (shape c.next-token.result) c.at-end.result) (sym e)
+          (subst (λ (k : ℕ). EndsAt s (shape c.next-token.result) k) (sym a)
+          (subst (λ x. EndsAt s x (next_token s i).to) (sym c.next-token.ensures.token) (name_ends s i)));
     }
 
 pub element-returns-in_err-element : goal.element-returns-in_err-element
@@ -108,16 +108,16 @@ element-returns-in_err-element t c =
     let s = c.args.reader.now.text.now in
     let i = c.args.reader.now.at in
     let es = entries c.args.book.now.bytes.now in
-    let q = c.next_token.ensures.token in
-    let leaf = leafy c.next_token.result (ap stops q ∙ c.requires.go) c.in_default.not-GroupOpen in
+    let q = c.next-token.ensures.token in
+    let leaf = leafy c.next-token.result (ap stops q ∙ c.requires.go) c.in_default.not-GroupOpen in
     let f = (moves s i c.args.reader.now.within).forward (ap is_end (sym q) ∙ leaf.goes) in
-    let e = c.text-text.ensures ∙ ap (λ z. z.now) c.next_token.ensures.same in
-    let p = err_from_is_err_and c.from-residual-in_err-element.result c.from-residual-in_err-element.ensures.1 in
-    let wrong = ap (λ (z : List ℕ). leaf_of es (names_in z c.args.names.now) (shape c.next_token.result)) (sym e) ∙ sym c.leaf.ensures.value ∙ c.in_err-element.was in
+    let e = c.text-text.ensures ∙ ap (λ z. z.now) c.next-token.ensures.same in
+    let p = err_from_is_err_and c.from_residual-in_err-element.result c.from_residual-in_err-element.ensures.1 in
+    let wrong = ap (λ (z : List ℕ). leaf_of es (names_in z c.args.names.now) (shape c.next-token.result)) (sym e) ∙ sym c.leaf.ensures.value ∙ c.in_err-element.was in
     rw (p.1, p.2) (record {
-      same = c.next_token.ensures.same;
-      forward = omega (arith, c.next_token.ensures.moved);
-      went = no-leaf es s c.args.depth c.args.row.now c.args.names.now i c.requires.fine c.args.reader.now.within _ _ c.next_token.ensures.moved c.next_token.ensures.start (shape c.next_token.result) q leaf _ wrong;
+      same = c.next-token.ensures.same;
+      forward = omega (arith, c.next-token.ensures.moved);
+      went = no-leaf es s c.args.depth c.args.row.now c.args.names.now i c.requires.fine c.args.reader.now.within _ _ c.next-token.ensures.moved c.next-token.ensures.start (shape c.next-token.result) q leaf _ wrong;
     })
 
 pub element-returns : goal.element-returns
@@ -125,15 +125,15 @@ element-returns t c =
     let s = c.args.reader.now.text.now in
     let i = c.args.reader.now.at in
     let es = entries c.args.book.now.bytes.now in
-    let q = c.next_token.ensures.token in
-    let leaf = leafy c.next_token.result (ap stops q ∙ c.requires.go) c.in_default.not-GroupOpen in
+    let q = c.next-token.ensures.token in
+    let leaf = leafy c.next-token.result (ap stops q ∙ c.requires.go) c.in_default.not-GroupOpen in
     let f = (moves s i c.args.reader.now.within).forward (ap is_end (sym q) ∙ leaf.goes) in
-    let e = c.text-text.ensures ∙ ap (λ z. z.now) c.next_token.ensures.same in
-    let right = ap (λ (z : List ℕ). leaf_of es (names_in z c.args.names.now) (shape c.next_token.result)) (sym e) ∙ sym c.leaf.ensures.value ∙ c.in_ok-element.was in
-    let names : names_in s c.leaf.new.names ≡ names_after (names_in s c.args.names.now) (shape c.next_token.result) =
-    subst (λ (z : List ℕ). names_in z c.leaf.new.names ≡ names_after (names_in z c.args.names.now) (shape c.next_token.result)) e (c.in_ok-element.ensures.names refl) in
+    let e = c.text-text.ensures ∙ ap (λ z. z.now) c.next-token.ensures.same in
+    let right = ap (λ (z : List ℕ). leaf_of es (names_in z c.args.names.now) (shape c.next-token.result)) (sym e) ∙ sym c.leaf.ensures.value ∙ c.in_ok-element.was in
+    let names : names_in s c.leaf.new.names ≡ names_after (names_in s c.args.names.now) (shape c.next-token.result) =
+    subst (λ (z : List ℕ). names_in z c.leaf.new.names ≡ names_after (names_in z c.args.names.now) (shape c.next-token.result)) e (c.in_ok-element.ensures.names refl) in
     record {
-      same = c.next_token.ensures.same;
-      forward = omega (arith, c.next_token.ensures.moved);
-      went = leaf_put es s c.args.depth c.args.row.now c.args.names.now i c.requires.fine c.args.reader.now.within _ _ c.next_token.ensures.moved c.next_token.ensures.start (shape c.next_token.result) q leaf c.put-2.new.row c.leaf.new.names c.in_ok-element.element c.put-2.result right names (subst (λ (z : List ℕ). LieIn z c.leaf.new.names) e c.leaf.ensures.lie) c.put-2.ensures;
+      same = c.next-token.ensures.same;
+      forward = omega (arith, c.next-token.ensures.moved);
+      went = leaf_put es s c.args.depth c.args.row.now c.args.names.now i c.requires.fine c.args.reader.now.within _ _ c.next-token.ensures.moved c.next-token.ensures.start (shape c.next-token.result) q leaf c.put-2.new.row c.leaf.new.names c.in_ok-element.element c.put-2.result right names (subst (λ (z : List ℕ). LieIn z c.leaf.new.names) e c.leaf.ensures.lie) c.put-2.ensures;
     }
