@@ -21,8 +21,8 @@ returns-then-not-opens c =
       stepped = λ rs l. let a = word-alone (entries c.args.book.now.bytes.now) s i n.depth n.empty rs c.args.reader.now.within c.in-Word.word.now q o in cc;
     }
 
-pub returns-in_ok-record : goal.returns-in_ok-record
-returns-in_ok-record c =
+pub returns-in_ok-record-in-Word : goal.returns-in_ok-record-in-Word
+returns-in_ok-record-in-Word c =
     let n = c.args.nest.now in
     let s = c.args.reader.now.text.now in
     let i = c.args.reader.now.at in
@@ -39,8 +39,8 @@ returns-in_ok-record c =
       same = search rules;
       stepped = (
         λ rs l.
-            let r = c.in_ok-record.record in
-            let a = ap (λ (k : ℕ). node_answer es n.depth k w (next_token s i).start) l ∙ ap (node_answer es n.depth n.count w) (sym st) ∙ sym c.node.ensures ∙ c.in_ok-record.was in
+            let r = c.in_ok-record-in-Word.record in
+            let a = ap (λ (k : ℕ). node_answer es n.depth k w (next_token s i).start) l ∙ ap (node_answer es n.depth n.count w) (sym st) ∙ sym c.node.ensures ∙ c.in_ok-record-in-Word.was in
             word-node es s i n.depth n.empty rs c.args.reader.now.within w r q o a
             ∙ ap (λ (k : ℕ). tree_scan es (n.depth + 1) true (rs ++ (r ∷ [])) (tokens_from s k)) (sym j),
         refl,
@@ -48,8 +48,8 @@ returns-in_ok-record c =
       );
     }
 
-pub returns-in_err-record : goal.returns-in_err-record
-returns-in_err-record c =
+pub returns-in_err-record-in-Word : goal.returns-in_err-record-in-Word
+returns-in_err-record-in-Word c =
     let n = c.args.nest.now in
     let s = c.args.reader.now.text.now in
     let i = c.args.reader.now.at in
@@ -62,12 +62,12 @@ returns-in_err-record c =
     rw (p.1, p.2) (record {
       same = search rules;
       stepped = λ rs l.
-          let a = ap (λ (k : ℕ). node_answer es n.depth k w (next_token s i).start) l ∙ ap (node_answer es n.depth n.count w) (sym st) ∙ sym c.node.ensures ∙ c.in_err-record.was in
+          let a = ap (λ (k : ℕ). node_answer es n.depth k w (next_token s i).start) l ∙ ap (node_answer es n.depth n.count w) (sym st) ∙ sym c.node.ensures ∙ c.in_err-record-in-Word.was in
           word-refused es s i n.depth n.empty rs c.args.reader.now.within w _ q o a;
     })
 
-pub returns-in_err-record-2 : goal.returns-in_err-record-2
-returns-in_err-record-2 c =
+pub returns-in_err-record-in-Quoted : goal.returns-in_err-record-in-Quoted
+returns-in_err-record-in-Quoted c =
     let n = c.args.nest.now in
     let s = c.args.reader.now.text.now in
     let i = c.args.reader.now.at in
@@ -75,11 +75,11 @@ returns-in_err-record-2 c =
     let w = c.in-Quoted.name.now in
     let q = c.in-Quoted.ensures.token in
     let st : c.start-start.result ≡ (next_token s i).start = c.start-start.ensures ∙ c.next-token.ensures.start in
-    let p = err_from_is_err_and c.from_residual-in_err-record-2.result c.from_residual-in_err-record-2.ensures.1 in
+    let p = err_from_is_err_and c.from_residual-in_err-record-in-Quoted.result c.from_residual-in_err-record-in-Quoted.ensures.1 in
     rw (p.1, p.2) (record {
       same = search rules;
       stepped = λ rs l.
-          let a = ap (λ (k : ℕ). node_answer es n.depth k w (next_token s i).start) l ∙ ap (node_answer es n.depth n.count w) (sym st) ∙ sym c.node-in-Quoted.ensures ∙ c.in_err-record-2.was in
+          let a = ap (λ (k : ℕ). node_answer es n.depth k w (next_token s i).start) l ∙ ap (node_answer es n.depth n.count w) (sym st) ∙ sym c.node-in-Quoted.ensures ∙ c.in_err-record-in-Quoted.was in
           quoted-refused es s i n.depth n.empty rs c.args.reader.now.within w _ q a;
     })
 
@@ -95,8 +95,8 @@ returns-in-Some c =
       stepped = λ rs l. let b = sign-wrong (entries c.args.book.now.bytes.now) s i n.depth n.empty rs c.args.reader.now.within c.in-Sign.byte c.in-Some.cause q k in cc;
     }
 
-pub returns-in_ok-record-2 : goal.returns-in_ok-record-2
-returns-in_ok-record-2 c =
+pub returns-in_ok-record-in-Quoted : goal.returns-in_ok-record-in-Quoted
+returns-in_ok-record-in-Quoted c =
     let n = c.args.nest.now in
     let s = c.args.reader.now.text.now in
     let i = c.args.reader.now.at in
@@ -110,8 +110,8 @@ returns-in_ok-record-2 c =
       same = search rules;
       stepped = (
         λ rs l.
-            let r = c.in_ok-record-2.record in
-            let a = ap (λ (k : ℕ). node_answer es n.depth k w (next_token s i).start) l ∙ ap (node_answer es n.depth n.count w) (sym st) ∙ sym c.node-in-Quoted.ensures ∙ c.in_ok-record-2.was in
+            let r = c.in_ok-record-in-Quoted.record in
+            let a = ap (λ (k : ℕ). node_answer es n.depth k w (next_token s i).start) l ∙ ap (node_answer es n.depth n.count w) (sym st) ∙ sym c.node-in-Quoted.ensures ∙ c.in_ok-record-in-Quoted.was in
             quoted-node es s i n.depth n.empty rs c.args.reader.now.within w r q a
             ∙ ap (λ (k : ℕ). tree_scan es n.depth false (rs ++ (r ∷ [])) (tokens_from s k)) (sym c.next-token.ensures.moved),
         refl,
