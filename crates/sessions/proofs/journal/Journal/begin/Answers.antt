@@ -14,7 +14,7 @@ pub invariant_of-self : goal.invariant_of-self
 invariant_of-self c =
     let j = c.args.self.now in
     let sums : sum_by of (vec_items c.push_reserved.new.self) ≡ vec_len j.changes = ap (sum_by of) c.push_reserved.ensures.items ∙ sum_by_push of (vec_items j.clicks) (record { changes = 0 }) ∙ omega (arith, j.counted) in
-    (search rules, (search rules, (sums, ((λ _. omega (arith, c.push_reserved.ensures.len)), (search rules, tt)))))
+    record { click_room = search rules; change_room = search rules; counted = sums; begun = (λ _. omega (arith, c.push_reserved.ensures.len)); labels = search rules }
 
 pub returns : goal.returns
 returns c =

@@ -29,7 +29,7 @@ invariant_of-self c =
     let j = c.args.self.now in
     let some : 0 < vec_len j.clicks = omega (arith, length_held (vec_items j.clicks) (vec_items j.changes), j.clicks.ok.0, c.requires.0) in
     let g = gone _ _ c.pop.result (vec_items j.changes) ((ltb_from_iff c.pop.ensures.variant) ∙ lt-ltb 0 (vec_len j.clicks) some) c.pop.ensures.items (j.counted ∙ j.changes.ok.0) c.requires.1 in
-    (search rules, (search rules, (g.sums ∙ sym j.changes.ok.0, ((λ e. absurd (both_ways false refl e)), (search rules, tt)))))
+    record { click_room = search rules; change_room = search rules; counted = g.sums ∙ sym j.changes.ok.0; begun = (λ e. absurd (both_ways false refl e)); labels = search rules }
 
 pub returns : goal.returns
 returns c =

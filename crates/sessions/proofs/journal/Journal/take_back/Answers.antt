@@ -41,8 +41,8 @@ index-requires c =
     let j = c.args.self.now in
     omega (arith, length_held (vec_items j.clicks) (vec_items j.changes), j.clicks.ok.0, c.requires)
 
-pub index-mut-click-requires : goal.index-mut-click-requires
-index-mut-click-requires c =
+pub index_mut-click-requires : goal.index_mut-click-requires
+index_mut-click-requires c =
     let j = c.args.self.now in
     omega (arith, length_held (vec_items j.clicks) (vec_items j.changes), j.clicks.ok.0, c.requires)
 
@@ -62,23 +62,23 @@ overflow_sub-click c =
     let j = c.args.self.now in
     let long = length_held (vec_items j.clicks) (vec_items j.changes) in
     let inside : c.len-last.result - 1 < length (vec_items j.clicks) = omega (arith, j.clicks.ok.0, c.requires) in
-    omega (arith, same_count (vec_items j.clicks) (c.len-last.result - 1) c.index.result.now c.index-mut-click.result.now inside c.index.ensures c.index-mut-click.ensures.value, c.if-index-eq0.false)
+    omega (arith, same_count (vec_items j.clicks) (c.len-last.result - 1) c.index.result.now c.index_mut-click.result.now inside c.index.ensures c.index_mut-click.ensures.value, c.if-index-eq0.false)
 
 pub invariant_of-self : goal.invariant_of-self
 invariant_of-self c =
     let j = c.args.self.now in
-    let x = c.index-mut-click.result.now in
+    let x = c.index_mut-click.result.now in
     let i = c.len-last.result - 1 in
     let long = length_held (vec_items j.clicks) (vec_items j.changes) in
     let inside : c.len-last.result - 1 < length (vec_items j.clicks) = omega (arith, j.clicks.ok.0, c.requires) in
-    let same = same_count (vec_items j.clicks) (c.len-last.result - 1) c.index.result.now c.index-mut-click.result.now inside c.index.ensures c.index-mut-click.ensures.value in
-    let is = ap of c.index-mut-click.ensures.value in
-    let few = get_or-le-sum_by of (vec_items j.clicks) (c.len-last.result - 1) c.index-mut-click.result.now inside in
+    let same = same_count (vec_items j.clicks) (c.len-last.result - 1) c.index.result.now c.index_mut-click.result.now inside c.index.ensures c.index_mut-click.ensures.value in
+    let is = ap of c.index_mut-click.ensures.value in
+    let few = get_or-le-sum_by of (vec_items j.clicks) (c.len-last.result - 1) c.index_mut-click.result.now inside in
     let some : 0 < vec_len j.changes = omega (arith, j.counted, c.if-index-eq0.false) in
     let t = (ltb_from_iff c.pop.ensures.variant) ∙ lt-ltb 0 (vec_len j.changes) some in
-    let less = sum_by-set of (vec_items j.clicks) (c.len-last.result - 1) (record { changes = c.index-mut-click.result.now.changes - 1 }) c.index-mut-click.result.now inside in
-    let sums : sum_by of (set (vec_items j.clicks) (c.len-last.result - 1) (record { changes = c.index-mut-click.result.now.changes - 1 })) ≡ vec_len c.pop.new.self = omega (arith, j.counted, c.pop.ensures.len, length_some c.pop.result t, c.if-index-eq0.false) in
-    (search rules, (search rules, (sums, (j.begun, (labels_left _ _ c.pop.result t c.pop.ensures.items j.labels, tt)))))
+    let less = sum_by-set of (vec_items j.clicks) (c.len-last.result - 1) (record { changes = c.index_mut-click.result.now.changes - 1 }) c.index_mut-click.result.now inside in
+    let sums : sum_by of (set (vec_items j.clicks) (c.len-last.result - 1) (record { changes = c.index_mut-click.result.now.changes - 1 })) ≡ vec_len c.pop.new.self = omega (arith, j.counted, c.pop.ensures.len, length_some c.pop.result t, c.if-index-eq0.false) in
+    record { click_room = search rules; change_room = search rules; counted = sums; begun = j.begun; labels = labels_left _ _ c.pop.result t c.pop.ensures.items j.labels }
 
 pub returns : goal.returns
 returns c =
@@ -86,13 +86,13 @@ returns c =
     let long = length_held (vec_items j.clicks) (vec_items j.changes) in
     let inside : c.len-last.result - 1 < length (vec_items j.clicks) = omega (arith, j.clicks.ok.0, c.requires) in
     let one : length (vec_items j.clicks) ≡ c.len-last.result - 1 + 1 = omega (arith, j.clicks.ok.0, c.requires) in
-    let same = same_count (vec_items j.clicks) (c.len-last.result - 1) c.index.result.now c.index-mut-click.result.now inside c.index.ensures c.index-mut-click.ensures.value in
-    let is = ap of c.index-mut-click.ensures.value in
-    let few = get_or-le-sum_by of (vec_items j.clicks) (c.len-last.result - 1) c.index-mut-click.result.now inside in
+    let same = same_count (vec_items j.clicks) (c.len-last.result - 1) c.index.result.now c.index_mut-click.result.now inside c.index.ensures c.index_mut-click.ensures.value in
+    let is = ap of c.index_mut-click.ensures.value in
+    let few = get_or-le-sum_by of (vec_items j.clicks) (c.len-last.result - 1) c.index_mut-click.result.now inside in
     let some : 0 < vec_len j.changes = omega (arith, j.counted, c.if-index-eq0.false) in
     let t = (ltb_from_iff c.pop.ensures.variant) ∙ lt-ltb 0 (vec_len j.changes) some in
     record {
-      held = taken (vec_items j.clicks) (c.len-last.result - 1) c.index-mut-click.result.now one (record { changes = c.index-mut-click.result.now.changes - 1 }) (omega (arith, c.if-index-eq0.false)) (vec_items j.changes) (vec_items c.pop.new.self) c.pop.result t c.pop.ensures.items j.labels;
+      held = taken (vec_items j.clicks) (c.len-last.result - 1) c.index_mut-click.result.now one (record { changes = c.index_mut-click.result.now.changes - 1 }) (omega (arith, c.if-index-eq0.false)) (vec_items j.changes) (vec_items c.pop.new.self) c.pop.result t c.pop.ensures.items j.labels;
       same = cases_some _ c.pop.result t refl;
-      some = omega (arith, c.requires, length_held (set (vec_items j.clicks) (c.len-last.result - 1) (record { changes = c.index-mut-click.result.now.changes - 1 })) (vec_items c.pop.new.self), length-set (vec_items j.clicks) (c.len-last.result - 1) (record { changes = c.index-mut-click.result.now.changes - 1 }));
+      some = omega (arith, c.requires, length_held (set (vec_items j.clicks) (c.len-last.result - 1) (record { changes = c.index_mut-click.result.now.changes - 1 })) (vec_items c.pop.new.self), length-set (vec_items j.clicks) (c.len-last.result - 1) (record { changes = c.index_mut-click.result.now.changes - 1 }));
     }

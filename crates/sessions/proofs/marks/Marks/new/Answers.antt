@@ -10,4 +10,4 @@ invariant_of-result c =
     let long : vec_len k ≡ c.args.places = k.ok.0 ∙ ap length rows ∙ length-replicate c.args.places (replicate 16 false) in
     let same : vec_len c.in_ok-touched.touched ≡ c.args.places = c.in_ok-touched.ensures.len in
     let wide : (i : ℕ) → i < vec_len k → length (get_or (vec_items k) i []) ≡ 16 = λ i h. ap (λ (x : List (List _)). length (get_or x i [])) rows ∙ ap length (get_or-replicate c.args.places i (replicate 16 false) [] (omega arith)) in
-    (same ∙ sym long, (omega (arith, c.requires), (wide, tt)))
+    record { paired = same ∙ sym long; few = omega (arith, c.requires); wide = wide }

@@ -33,16 +33,7 @@ invariant_of-self g c =
     let m : Forest = g.T.Meant.meaning c.args.tree.now in
     let s = c.args.shelf.now in
     let k = c.args.self.now in
-    let rows = rows_are m c.args.shelf.now c.args.self.now (vec_items c.spread.new.touched) (vec_items c.try_patterns-steps.new.rows) c.spread.ensures.items c.try_patterns-steps.ensures.items in (
-      omega (arith, c.clear.ensures.len, c.spread.ensures.len, c.try_patterns-steps.ensures.len, c.args.self.now.paired),
-      (
-        omega (arith, c.try_patterns-steps.ensures.len, c.args.self.now.few),
-        (
-          (λ i h. ap (λ (x : List (List Bool)). length (get_or x i [])) rows ∙ rebuilt_wide m (shelf_view c.args.shelf.now) (marks_view c.args.self.now) i (omega (arith, c.try_patterns-steps.ensures.len, c.args.self.now.rows.ok.0))),
-          tt,
-        ),
-      ),
-    )
+    let rows = rows_are m c.args.shelf.now c.args.self.now (vec_items c.spread.new.touched) (vec_items c.try_patterns-steps.new.rows) c.spread.ensures.items c.try_patterns-steps.ensures.items in record { paired = omega (arith, c.clear.ensures.len, c.spread.ensures.len, c.try_patterns-steps.ensures.len, c.args.self.now.paired); few = omega (arith, c.try_patterns-steps.ensures.len, c.args.self.now.few); wide = (λ i h. ap (λ (x : List (List Bool)). length (get_or x i [])) rows ∙ rebuilt_wide m (shelf_view c.args.shelf.now) (marks_view c.args.self.now) i (omega (arith, c.try_patterns-steps.ensures.len, c.args.self.now.rows.ok.0))) }
 
 pub returns : goal.returns
 returns g c =

@@ -5,7 +5,7 @@ use Rattle.sessions.proofs.marks.notes.blank_rows.Goals as goal
 
 pub loop-i-preserved : goal.loop-i-preserved
 loop-i-preserved c = (
-  c.push_reserved.ensures.items ∙ ap (λ xs. xs ++ (replicate 16 false ∷ [])) c.loop-i.invariant.0 ∙ replicate_more c.loop-i.-i (replicate 16 false),
+  c.push_reserved.ensures.items ∙ ap (λ xs. xs ++ (replicate 16 false ∷ [])) c.loop-i.invariant.0 ∙ replicate_more c.loop-i._i (replicate 16 false),
   search rules,
   search rules,
 )

@@ -23,7 +23,7 @@ pub invariant_of-self : goal.invariant_of-self
 invariant_of-self c =
     let s = c.args.self.now in
     let few : vec_len c.push_reserved.new.self ≤ 16 = omega (arith, length-map (vec_items s.rows) elements_of, s.rows.ok.0, c.requires, c.push_reserved.ensures.len) in
-    (search rules, (few, (∥∥₁_map s.kept (λ old. subst EachPattern (sym c.push_reserved.ensures.items) (one_more (vec_items s.rows) c.row.result old c.row.ensures.sound)), tt)))
+    record { room = search rules; few = few; kept = ∥∥₁_map s.kept (λ old. subst EachPattern (sym c.push_reserved.ensures.items) (one_more (vec_items s.rows) c.row.result old c.row.ensures.sound)) }
 
 pub returns : goal.returns
 returns c =

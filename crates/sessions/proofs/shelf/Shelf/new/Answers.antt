@@ -5,4 +5,4 @@ use Rattle.sessions.proofs.shelf.Shelf.new.Goals as goal
 pub invariant_of-result : goal.invariant_of-result
 invariant_of-result c =
     let made = c.in_ok-rows.ensures in
-    (search rules, (search rules, (∣ (λ k h. absurd (omega (arith, ap length made.items))) ∣₁, tt)))
+    record { room = search rules; few = search rules; kept = ∣ (λ k h. absurd (omega (arith, ap length made.items))) ∣₁ }
