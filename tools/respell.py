@@ -33,17 +33,19 @@ def files(*ends):
 def defined():
     kinds = collections.defaultdict(set)
     for p in files("antt"):
-        inside = None
+        inside, deep, module = None, 0, False
         for line in open(p, encoding="utf-8"):
-            head = re.match(rf"^(?:pub |abbrev |unfoldable )*(record|data)\s+({WORD})", line)
-            part = re.match(rf"^  (?:pub )?({WORD})\s*:\s", line)
-            item = re.match(rf"^(?:pub |abbrev |unfoldable )*({WORD})\s*:\s*(.*)$", line)
-            if head:
-                inside = head.group(1)
+            depth = len(line) - len(line.lstrip())
+            head = re.match(rf"^\s*(?:pub |abbrev |unfoldable )*(record|data)\s+({WORD})", line)
+            item = re.match(rf"^\s*(?:pub |abbrev |unfoldable )*({WORD})\s*:\s*(.*)$", line)
+            if re.match(r"^\s*module\b", line):
+                inside, module = None, True
+            elif head:
+                inside, deep = head.group(1), depth
                 kinds[head.group(2)].add("type")
-            elif part and inside:
-                kinds[part.group(1)].add("field" if inside == "record" else "case")
-            elif item:
+            elif item and inside and depth == deep + 2:
+                kinds[item.group(1)].add("field" if inside == "record" else "case")
+            elif item and (depth == 0 or (module and not (inside and depth > deep) and p.count("/") == 3)):
                 inside = None
                 if not re.match(r"(goal|need)\.", item.group(2)):
                     kinds[item.group(1)].add("type" if re.search(r"Type 0\s*$", item.group(2)) else "item")

@@ -56,46 +56,46 @@ match_ended m l es p n h k t a i =
     cond-true (ltb p (length m)) _ (Err no_such_place) (lt-ltb p (length m) h) ∙ ap (λ (o : Outcome). answered_by o.bound o.steps) e
 
 module _ (m : Forest) (l : Law m) (es : List Element) (f : WellFormed es) (p : ℕ) where
-  inside-reading : p < length m → (o : Option Bindings) → (match_at_lem m es p).bound ≡ o → (a : Match) → answered_by o (match_at_lem m es p).steps ≡ Ok a → Reads (bound_trees m a.places) es (subtree m p)
-  inside-reading h None e a k = let z : ◌≡◌ {A = ℕ} 0 1 = cc in absurd (omega arith)
-  inside-reading h (Some b) e a k = let z : b ≡ a.places = ap (λ (r : Answer). places-or b r) k in subst (λ (c : Bindings). Reads (bound_trees m c) es (subtree m p)) z (match_is_a_reading m es p l f h b e)
+  inside_reading : p < length m → (o : Option Bindings) → (match_at_lem m es p).bound ≡ o → (a : Match) → answered_by o (match_at_lem m es p).steps ≡ Ok a → Reads (bound_trees m a.places) es (subtree m p)
+  inside_reading h None e a k = let z : ◌≡◌ {A = ℕ} 0 1 = cc in absurd (omega arith)
+  inside_reading h (Some b) e a k = let z : b ≡ a.places = ap (λ (r : Answer). places_or b r) k in subst (λ (c : Bindings). Reads (bound_trees m c) es (subtree m p)) z (match_is_a_reading m es p l f h b e)
     where
-      places-or : Bindings → Answer → Bindings
-      places-or c (Ok a) = a.places
-      places-or c (Err e) = c
+      places_or : Bindings → Answer → Bindings
+      places_or c (Ok a) = a.places
+      places_or c (Err e) = c
 
-  inside-brief : p < length m → (o : Option Bindings) → steps_of (answered_by o (match_at_lem m es p).steps) ≤ 2 * size_at m p
-  inside-brief h None = two_steps_a_node m es p l f h
-  inside-brief h (Some b) = two_steps_a_node m es p l f h
+  inside_brief : p < length m → (o : Option Bindings) → steps_of (answered_by o (match_at_lem m es p).steps) ≤ 2 * size_at m p
+  inside_brief h None = two_steps_a_node m es p l f h
+  inside_brief h (Some b) = two_steps_a_node m es p l f h
 
   abbrev Here : Answer
   Here = answered_by (match_at_lem m es p).bound (match_at_lem m es p).steps
 
-  answer-in : p < length m → match_answer m es p ≡ Here
-  answer-in h = cond-true (ltb p (length m)) Here (Err no_such_place) (lt-ltb p (length m) h)
+  answer_in : p < length m → match_answer m es p ≡ Here
+  answer_in h = cond-true (ltb p (length m)) Here (Err no_such_place) (lt-ltb p (length m) h)
 
-  answer-out : length m ≤ p → match_answer m es p ≡ Err no_such_place
-  answer-out h = cond-false (ltb p (length m)) Here (Err no_such_place) (le-ltb p (length m) h)
+  answer_out : length m ≤ p → match_answer m es p ≡ Err no_such_place
+  answer_out h = cond-false (ltb p (length m)) Here (Err no_such_place) (le-ltb p (length m) h)
 
-  moved-answered : (x y : ℕ) (o : Option Bindings) (k : ℕ) → answered_by (moved_bound x y o) k ≡ moved_answer x y (answered_by o k)
-  moved-answered x y None k = refl
-  moved-answered x y (Some b) k = refl
+  moved_answered : (x y : ℕ) (o : Option Bindings) (k : ℕ) → answered_by (moved_bound x y o) k ≡ moved_answer x y (answered_by o k)
+  moved_answered x y None k = refl
+  moved_answered x y (Some b) k = refl
 
-  inside-alone : p < length m → (n : Forest) (q : ℕ) → Law n → q < length n → subtree m p ≡ subtree n q → match_answer n es q ≡ moved_answer p q Here
-  inside-alone h n q k i e =
+  inside_alone : p < length m → (n : Forest) (q : ℕ) → Law n → q < length n → subtree m p ≡ subtree n q → match_answer n es q ≡ moved_answer p q Here
+  inside_alone h n q k i e =
       cond-true (ltb q (length n)) (answered_by (match_at_lem n es q).bound (match_at_lem n es q).steps) (Err no_such_place) (lt-ltb q (length n) i)
       ∙ ap (λ (o : Outcome). answered_by o.bound o.steps) (subtree_alone m n es p q l k f h i e)
-      ∙ moved-answered p q (match_at_lem m es p).bound (match_at_lem m es p).steps
+      ∙ moved_answered p q (match_at_lem m es p).bound (match_at_lem m es p).steps
 
-  pub laws-hold : (r : Answer) → r ≡ match_answer m es p → MatchLaws m es p r
-  laws-hold r e = ⊎_elim
-      (λ h. subst (MatchLaws m es p) (sym (e ∙ answer-in h)) (record {
-        reading = λ a k. inside-reading h (match_at_lem m es p).bound refl a k;
+  pub laws_hold : (r : Answer) → r ≡ match_answer m es p → MatchLaws m es p r
+  laws_hold r e = ⊎_elim
+      (λ h. subst (MatchLaws m es p) (sym (e ∙ answer_in h)) (record {
+        reading = λ a k. inside_reading h (match_at_lem m es p).bound refl a k;
         plain = λ i σ w k. let (b, j) = plain_readings_match m es p l f h σ w k in ap (λ (o : Option Bindings). is_ok (answered_by o (match_at_lem m es p).steps)) j;
-        brief = inside-brief h (match_at_lem m es p).bound;
-        alone = λ i. inside-alone h;
+        brief = inside_brief h (match_at_lem m es p).bound;
+        alone = λ i. inside_alone h;
       }))
-      (λ h. subst (MatchLaws m es p) (sym (e ∙ answer-out h)) (record {
+      (λ h. subst (MatchLaws m es p) (sym (e ∙ answer_out h)) (record {
         reading = λ a k. let z : ◌≡◌ {A = ℕ} 0 1 = cc in absurd (omega arith);
         plain = λ i σ w k. absurd (omega arith);
         brief = omega arith;

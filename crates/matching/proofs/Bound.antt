@@ -37,18 +37,18 @@ bind_after m b (Some q) x p k = go (same (subtree m q) (subtree m p))
     go false = refl
 
 module _ (m : Forest) (b : Bindings) (x p n : ℕ) where
-  pub fresh-ended : get_or b x None ≡ None → ended true (record { places = set b x (Some p); steps = n }) ≡ tick n (bind m b (get_or b x None) x p settled)
-  fresh-ended h = sym (tick_settled n (set b x (Some p))) ∙ sym (ap (λ (o : Option ℕ). tick n (bind m b o x p settled)) h)
+  pub fresh_ended : get_or b x None ≡ None → ended true (record { places = set b x (Some p); steps = n }) ≡ tick n (bind m b (get_or b x None) x p settled)
+  fresh_ended h = sym (tick_settled n (set b x (Some p))) ∙ sym (ap (λ (o : Option ℕ). tick n (bind m b o x p settled)) h)
 
-  pub again-ended : (q k : ℕ) (t : Bool) → get_or b x None ≡ Some q → t ≡ same (subtree m q) (subtree m p) → k ≡ compared (subtree m q) (subtree m p) → ended t (record { places = b; steps = n + k }) ≡ tick n (bind m b (get_or b x None) x p settled)
-  again-ended q k t h i j = go t ∙ (λ r. tick n (tick (j r) (cond (i r) (settled b) fails))) ∙ sym (ap (λ (o : Option ℕ). tick n (bind m b o x p settled)) h)
+  pub again_ended : (q k : ℕ) (t : Bool) → get_or b x None ≡ Some q → t ≡ same (subtree m q) (subtree m p) → k ≡ compared (subtree m q) (subtree m p) → ended t (record { places = b; steps = n + k }) ≡ tick n (bind m b (get_or b x None) x p settled)
+  again_ended q k t h i j = go t ∙ (λ r. tick n (tick (j r) (cond (i r) (settled b) fails))) ∙ sym (ap (λ (o : Option ℕ). tick n (bind m b o x p settled)) h)
     where
       go : (t : Bool) → ended t (record { places = b; steps = n + k }) ≡ tick n (tick k (cond t (settled b) fails))
       go true = sym (tick_tick n k (settled b) ∙ tick_settled (n + k) b)
       go false = sym (tick_tick n k fails ∙ tick_fails (n + k) b)
 
-  pub inside-set : BoundInside m b → p < length m → BoundInside m (set b x (Some p))
-  inside-set h i y q e = ⊎_elim (λ z. omega (arith, z.1)) (λ z. h y q z) (set_some b x p y q e)
+  pub inside_set : BoundInside m b → p < length m → BoundInside m (set b x (Some p))
+  inside_set h i y q e = ⊎_elim (λ z. omega (arith, z.1)) (λ z. h y q z) (set_some b x p y q e)
 
 pub few_pairs : (m : Forest) (q p : ℕ) → compared (subtree m q) (subtree m p) ≤ size_at m p
 few_pairs m q p = omega (arith, compared_most (subtree m q) (subtree m p), subtree_most m p)

@@ -33,13 +33,13 @@ module _ (m : Forest) (s : Sound m) (q p : ℕ) (h : q < length m) (k : p < leng
     pub there : n < size_at m q
     there = ⊎_elim (λ z. omega (arith, so.sized z)) (λ z. omega (arith, s.sizes q h)) (cases_lt 0 n)
 
-    rest-cons : (r : ℕ) → r < length m → n < size_at m r → rest m r n ≡ get_or m (r + n) no_node ∷ rest m r (n + 1)
-    rest-cons r i j = win_cons m (r + n) (r + size_at m r) (omega arith) (fits_whole m s r i) ∙ ap (λ (x : ℕ). get_or m (r + n) no_node ∷ win m x (r + size_at m r)) (omega arith)
+    rest_cons : (r : ℕ) → r < length m → n < size_at m r → rest m r n ≡ get_or m (r + n) no_node ∷ rest m r (n + 1)
+    rest_cons r i j = win_cons m (r + n) (r + size_at m r) (omega arith) (fits_whole m s r i) ∙ ap (λ (x : ℕ). get_or m (r + n) no_node ∷ win m x (r + size_at m r)) (omega arith)
 
     pub one_more : same_node (get_or m (q + n) no_node) (get_or m (p + n) no_node) ≡ true → SoFar m q p (n + 1)
     one_more e =
-        let a = rest-cons q h there in
-        let b = rest-cons p k l in
+        let a = rest_cons q h there in
+        let b = rest_cons p k l in
         record {
           alike = so.alike ∙ (λ i. same (a i) (b i)) ∙ ap (λ t. t && same (rest m q (n + 1)) (rest m p (n + 1))) e;
           counted = so.counted ∙ ap (λ (x : ℕ). n + x) ((λ i. compared (a i) (b i)) ∙ cond-true _ (1 + compared (rest m q (n + 1)) (rest m p (n + 1))) 1 e) ∙ omega arith;
@@ -55,8 +55,8 @@ module _ (m : Forest) (s : Sound m) (q p : ℕ) (h : q < length m) (k : p < leng
 
     pub differ : same_node (get_or m (q + n) no_node) (get_or m (p + n) no_node) ≡ false → (same (subtree m q) (subtree m p) ≡ false) × (compared (subtree m q) (subtree m p) ≡ n + 1)
     differ e =
-        let a = rest-cons q h there in
-        let b = rest-cons p k l in (
+        let a = rest_cons q h there in
+        let b = rest_cons p k l in (
           so.alike ∙ (λ i. same (a i) (b i)) ∙ ap (λ t. t && same (rest m q (n + 1)) (rest m p (n + 1))) e,
           so.counted ∙ ap (λ (x : ℕ). n + x) ((λ i. compared (a i) (b i)) ∙ cond-false _ (1 + compared (rest m q (n + 1)) (rest m p (n + 1))) 1 e),
         )

@@ -31,29 +31,29 @@ after_steps o k i n g h = go o.bound
     go (Some c) = omega (arith, h c)
 
 module _ (m : Forest) (s : Sound m) (go : Walk) (less : (es : List Element) (p e : ℕ) (b : Bindings) → Fits m p e → (go es p e b).steps ≤ 2 * (e - p)) where
-  rule-steps : (es : List Element) (p e : ℕ) (b : Bindings) → Fits m p e → p < e → (r : Rule) → (by_rule go m es p (size_at m p) e b r).steps ≤ 2 * (e - p)
-  rule-steps es p e b f h Done = omega arith
-  rule-steps es p e b f h Stuck = omega arith
-  rule-steps es p e b f h BothGo = omega (arith, less (drop 1 es) (p + 1) e b (fits_later f (p + 1) (omega arith)))
-  rule-steps es p e b f h BindBeforeLexeme = omega (
+  rule_steps : (es : List Element) (p e : ℕ) (b : Bindings) → Fits m p e → p < e → (r : Rule) → (by_rule go m es p (size_at m p) e b r).steps ≤ 2 * (e - p)
+  rule_steps es p e b f h Done = omega arith
+  rule_steps es p e b f h Stuck = omega arith
+  rule_steps es p e b f h BothGo = omega (arith, less (drop 1 es) (p + 1) e b (fits_later f (p + 1) (omega arith)))
+  rule_steps es p e b f h BindBeforeLexeme = omega (
     arith,
     f.ends p (omega arith) h,
     s.sizes p (omega (arith, f.within)),
     bind_steps m b (get_or b (variable es) None) (variable es) p (go (drop 2 es) (p + size_at m p + 1) e) (2 * (e - (p + size_at m p + 1))) (λ c. less (drop 2 es) (p + size_at m p + 1) e c (fits_later f (p + size_at m p + 1) (omega arith))),
   )
-  rule-steps es p e b f h BindBeforeInner = omega (
+  rule_steps es p e b f h BindBeforeInner = omega (
     arith,
     f.ends p (omega arith) h,
     s.sizes p (omega (arith, f.within)),
     bind_steps m b (get_or b (variable es) None) (variable es) p (go (drop 1 es) (p + size_at m p) e) (2 * (e - (p + size_at m p))) (λ c. less (drop 1 es) (p + size_at m p) e c (fits_later f (p + size_at m p) (omega arith))),
   )
-  rule-steps es p e b f h BindLast = omega (
+  rule_steps es p e b f h BindLast = omega (
     arith,
     f.ends p (omega arith) h,
     s.sizes p (omega (arith, f.within)),
     bind_steps m b (get_or b (variable es) None) (variable es) p (go (drop 1 es) (p + size_at m p) e) (2 * (e - (p + size_at m p))) (λ c. less (drop 1 es) (p + size_at m p) e c (fits_later f (p + size_at m p) (omega arith))),
   )
-  rule-steps es p e b f h Enter = omega (
+  rule_steps es p e b f h Enter = omega (
     arith,
     f.ends p (omega arith) h,
     s.sizes p (omega (arith, f.within)),
@@ -61,19 +61,19 @@ module _ (m : Forest) (s : Sound m) (go : Walk) (less : (es : List Element) (p e
         (less (take (group es - 1) (drop 1 es)) (p + 1) (p + size_at m p) b (fits_inner s p (omega (arith, f.within))))
         (λ c. less (drop (group es) es) (p + size_at m p) e c (fits_later f (p + size_at m p) (omega arith))),
   )
-  rule-steps es p e b f h Open = omega (arith, less es (p + 1) e b (fits_later f (p + 1) (omega arith)))
+  rule_steps es p e b f h Open = omega (arith, less es (p + 1) e b (fits_later f (p + 1) (omega arith)))
 
-  none-steps : (es : List Element) (p e : ℕ) (b : Bindings) → (by_rule go m es p (size_at m p) e b (choose_none es)).steps ≤ 2 * (e - p)
-  none-steps [] p e b = omega arith
-  none-steps (x ∷ es) p e b = omega arith
+  none_steps : (es : List Element) (p e : ℕ) (b : Bindings) → (by_rule go m es p (size_at m p) e b (choose_none es)).steps ≤ 2 * (e - p)
+  none_steps [] p e b = omega arith
+  none_steps (x ∷ es) p e b = omega arith
 
-  step-steps : (es : List Element) (p e : ℕ) (b : Bindings) → Fits m p e → (by_rule go m es p (size_at m p) e b (choose es (win m p e))).steps ≤ 2 * (e - p)
-  step-steps es p e b f = ⊎_elim (λ h. rule-steps es p e b f h (choose es (win m p e)))
-      (λ h. subst (λ (w : Forest). (by_rule go m es p (size_at m p) e b (choose es w)).steps ≤ 2 * (e - p)) (sym (win_none m p e h)) (none-steps es p e b)) (cases_lt p e)
+  step_steps : (es : List Element) (p e : ℕ) (b : Bindings) → Fits m p e → (by_rule go m es p (size_at m p) e b (choose es (win m p e))).steps ≤ 2 * (e - p)
+  step_steps es p e b f = ⊎_elim (λ h. rule_steps es p e b f h (choose es (win m p e)))
+      (λ h. subst (λ (w : Forest). (by_rule go m es p (size_at m p) e b (choose es w)).steps ≤ 2 * (e - p)) (sym (win_none m p e h)) (none_steps es p e b)) (cases_lt p e)
 
 pub walk_steps : (n : ℕ) (m : Forest) → Sound m → (es : List Element) (p e : ℕ) (b : Bindings) → Fits m p e → (walk n m es p e b).steps ≤ 2 * (e - p)
 walk_steps zero m s es p e b f = omega arith
-walk_steps (suc n) m s es p e b f = step-steps m s (walk n m) (walk_steps n m s) es p e b f
+walk_steps (suc n) m s es p e b f = step_steps m s (walk n m) (walk_steps n m s) es p e b f
 
 pub two_steps_a_node : TwoStepsANode
 two_steps_a_node m es p l k h =

@@ -44,35 +44,35 @@ module _ (m : Forest) (s : Sound m) (n : ℕ) (o : Outcome) (most : ℕ) (es : L
     size_inside : p + size_at m p ≤ e
     size_inside = so.fit.ends p (omega arith) h
 
-    size-some : 0 < size_at m p
-    size-some = s.sizes p (omega (arith, so.fit.within))
+    size_some : 0 < size_at m p
+    size_some = s.sizes p (omega (arith, so.fit.within))
 
     module _ (l z : ℕ) (le : l ≡ label_at m p) (ze : z ≡ size_at m p) where
-      by-chosen : (r : Rule) → Chosen m es p e l z r → tick n o ≡ tick a.steps (by_rule (walks m) m es p z e a.places r)
-      by-chosen r c =
+      by_chosen : (r : Rule) → Chosen m es p e l z r → tick n o ≡ tick a.steps (by_rule (walks m) m es p z e a.places r)
+      by_chosen r c =
           so.goes ∙ ap (tick a.steps) (walks_step m s es p e a.places so.fit
           ∙ ap (by_rule (walks m) m es p (size_at m p) e a.places) (choose_some m s es p e so.fit h)
           ∙ (λ i. by_rule (walks m) m es p (sym ze i) e a.places (cond (ltb 1 (sym ze i)) (choose_inner es (sym le i) (win m (p + sym ze i) e)) (choose_leaf es (sym le i))))
           ∙ ap (by_rule (walks m) m es p z e a.places) (sym c))
 
-      pub was-done : Chosen m es p e l z Done → ended true a ≡ tick n o
-      was-done c = sym (by-chosen Done c ∙ tick_settled a.steps a.places)
+      pub was_done : Chosen m es p e l z Done → ended true a ≡ tick n o
+      was_done c = sym (by_chosen Done c ∙ tick_settled a.steps a.places)
 
-      pub was-stuck : Chosen m es p e l z Stuck → ended false a ≡ tick n o
-      was-stuck c = sym (by-chosen Stuck c ∙ tick_fails a.steps a.places)
+      pub was_stuck : Chosen m es p e l z Stuck → ended false a ≡ tick n o
+      was_stuck c = sym (by_chosen Stuck c ∙ tick_fails a.steps a.places)
 
-      pub both-went : 1 ≤ length es → Chosen m es p e l z BothGo → Reached m n o most (drop 1 es) (p + 1) e (stepped a)
-      both-went k c = record {
-        goes = by-chosen BothGo c ∙ tick_tick a.steps 1 (walks m (drop 1 es) (p + 1) e a.places);
+      pub both_went : 1 ≤ length es → Chosen m es p e l z BothGo → Reached m n o most (drop 1 es) (p + 1) e (stepped a)
+      both_went k c = record {
+        goes = by_chosen BothGo c ∙ tick_tick a.steps 1 (walks m (drop 1 es) (p + 1) e a.places);
         level = level_drop 1 es k so.level;
         fit = fits_later so.fit (p + 1) (omega arith);
         inside = so.inside;
         brief = omega (arith, so.brief);
       }
 
-      pub was-opened : Chosen m es p e l z Open → Reached m n o most es (p + 1) e (stepped a)
-      was-opened c = record {
-        goes = by-chosen Open c ∙ tick_tick a.steps 1 (walks m es (p + 1) e a.places);
+      pub was_opened : Chosen m es p e l z Open → Reached m n o most es (p + 1) e (stepped a)
+      was_opened c = record {
+        goes = by_chosen Open c ∙ tick_tick a.steps 1 (walks m es (p + 1) e a.places);
         level = so.level;
         fit = fits_later so.fit (p + 1) (omega arith);
         inside = so.inside;
@@ -88,68 +88,68 @@ module _ (m : Forest) (s : Sound m) (n : ℕ) (o : Outcome) (most : ℕ) (es : L
         abbrev Binding : Bool → Match → Type 0
         Binding t d = ended t d ≡ tick (a.steps + 1) (bind m a.places (get_or a.places x None) x p settled)
 
-        bind-follows : (t : Bool) (d : Match) (k : Bindings → Outcome) → Binding t d → tick a.steps (tick 1 (bind m a.places (get_or a.places (variable es) None) (variable es) p k)) ≡ after (ended t d) k
-        bind-follows t d k i =
+        bind_follows : (t : Bool) (d : Match) (k : Bindings → Outcome) → Binding t d → tick a.steps (tick 1 (bind m a.places (get_or a.places (variable es) None) (variable es) p k)) ≡ after (ended t d) k
+        bind_follows t d k i =
             (λ r. tick a.steps (tick 1 (bind m a.places (get_or a.places (sym xe r) None) (sym xe r) p k)))
             ∙ ap (λ (w : Outcome). tick a.steps (tick 1 w)) (bind_after m a.places (get_or a.places x None) x p k)
             ∙ follows t (bind m a.places (get_or a.places x None) x p settled) d k i
 
         module _ (d : Match) (inner : BoundInside m d.places) (few : d.steps ≤ a.steps + 1 + z) where
-          pub bound-lexeme : 2 ≤ length es → Chosen m es p e l z BindBeforeLexeme → Binding true d → Reached m n o most (drop 2 es) (p + z + 1) e d
-          bound-lexeme k c i = record {
-            goes = by-chosen BindBeforeLexeme c ∙ bind-follows true d (walks m (drop 2 es) (p + z + 1) e) i;
+          pub bound_lexeme : 2 ≤ length es → Chosen m es p e l z BindBeforeLexeme → Binding true d → Reached m n o most (drop 2 es) (p + z + 1) e d
+          bound_lexeme k c i = record {
+            goes = by_chosen BindBeforeLexeme c ∙ bind_follows true d (walks m (drop 2 es) (p + z + 1) e) i;
             level = level_drop 2 es k so.level;
             fit = fits_later so.fit (p + z + 1) (omega arith);
             inside = inner;
-            brief = omega (arith, few, so.brief, size_inside, size-some, ze);
+            brief = omega (arith, few, so.brief, size_inside, size_some, ze);
           }
 
-          bound-next : 1 ≤ length es → (r : Rule) → Chosen m es p e l z r → by_rule (walks m) m es p z e a.places r ≡ tick 1 (bind m a.places (get_or a.places (variable es) None) (variable es) p (walks m (drop 1 es) (p + z) e)) → Binding true d → Reached m n o most (drop 1 es) (p + z) e d
-          bound-next k r c j i = record {
-            goes = by-chosen r c ∙ ap (tick a.steps) j ∙ bind-follows true d (walks m (drop 1 es) (p + z) e) i;
+          bound_next : 1 ≤ length es → (r : Rule) → Chosen m es p e l z r → by_rule (walks m) m es p z e a.places r ≡ tick 1 (bind m a.places (get_or a.places (variable es) None) (variable es) p (walks m (drop 1 es) (p + z) e)) → Binding true d → Reached m n o most (drop 1 es) (p + z) e d
+          bound_next k r c j i = record {
+            goes = by_chosen r c ∙ ap (tick a.steps) j ∙ bind_follows true d (walks m (drop 1 es) (p + z) e) i;
             level = level_drop 1 es k so.level;
             fit = fits_later so.fit (p + z) (omega arith);
             inside = inner;
-            brief = omega (arith, few, so.brief, size_inside, size-some, ze);
+            brief = omega (arith, few, so.brief, size_inside, size_some, ze);
           }
 
-          pub bound-inner : 1 ≤ length es → Chosen m es p e l z BindBeforeInner → Binding true d → Reached m n o most (drop 1 es) (p + z) e d
-          bound-inner k c i = bound-next k BindBeforeInner c refl i
+          pub bound_inner : 1 ≤ length es → Chosen m es p e l z BindBeforeInner → Binding true d → Reached m n o most (drop 1 es) (p + z) e d
+          bound_inner k c i = bound_next k BindBeforeInner c refl i
 
-          pub bound-last : 1 ≤ length es → Chosen m es p e l z BindLast → Binding true d → Reached m n o most (drop 1 es) (p + z) e d
-          bound-last k c i = bound-next k BindLast c refl i
+          pub bound_last : 1 ≤ length es → Chosen m es p e l z BindLast → Binding true d → Reached m n o most (drop 1 es) (p + z) e d
+          bound_last k c i = bound_next k BindLast c refl i
 
-        pub differs-lexeme : (d : Match) → Chosen m es p e l z BindBeforeLexeme → Binding false d → ended false d ≡ tick n o
-        differs-lexeme d c i = sym (by-chosen BindBeforeLexeme c ∙ bind-follows false d (walks m (drop 2 es) (p + z + 1) e) i)
+        pub differs_lexeme : (d : Match) → Chosen m es p e l z BindBeforeLexeme → Binding false d → ended false d ≡ tick n o
+        differs_lexeme d c i = sym (by_chosen BindBeforeLexeme c ∙ bind_follows false d (walks m (drop 2 es) (p + z + 1) e) i)
 
-        pub differs-inner : (d : Match) → Chosen m es p e l z BindBeforeInner → Binding false d → ended false d ≡ tick n o
-        differs-inner d c i = sym (by-chosen BindBeforeInner c ∙ bind-follows false d (walks m (drop 1 es) (p + z) e) i)
+        pub differs_inner : (d : Match) → Chosen m es p e l z BindBeforeInner → Binding false d → ended false d ≡ tick n o
+        differs_inner d c i = sym (by_chosen BindBeforeInner c ∙ bind_follows false d (walks m (drop 1 es) (p + z) e) i)
 
-        pub differs-last : (d : Match) → Chosen m es p e l z BindLast → Binding false d → ended false d ≡ tick n o
-        differs-last d c i = sym (by-chosen BindLast c ∙ bind-follows false d (walks m (drop 1 es) (p + z) e) i)
+        pub differs_last : (d : Match) → Chosen m es p e l z BindLast → Binding false d → ended false d ≡ tick n o
+        differs_last d c i = sym (by_chosen BindLast c ∙ bind_follows false d (walks m (drop 1 es) (p + z) e) i)
 
       module _ (c : Chosen m es p e l z Enter) (k : ℕ) (ke : k ≡ group es) where
         -- what matching the group comes to
-        abbrev Group-match : Bool → Match → Type 0
-        Group-match t d = ended t d ≡ tick (a.steps + 1) (walks m (take (k - 1) (drop 1 es)) (p + 1) (p + z) a.places)
+        abbrev GroupMatch : Bool → Match → Type 0
+        GroupMatch t d = ended t d ≡ tick (a.steps + 1) (walks m (take (k - 1) (drop 1 es)) (p + 1) (p + z) a.places)
 
-        group-follows : (t : Bool) (d : Match) → Group-match t d → tick n o ≡ after (ended t d) (walks m (drop k es) (p + z) e)
-        group-follows t d i =
-            by-chosen Enter c
+        group_follows : (t : Bool) (d : Match) → GroupMatch t d → tick n o ≡ after (ended t d) (walks m (drop k es) (p + z) e)
+        group_follows t d i =
+            by_chosen Enter c
             ∙ (λ r. tick a.steps (tick 1 (after (walks m (take (sym ke r - 1) (drop 1 es)) (p + 1) (p + z) a.places) (walks m (drop (sym ke r) es) (p + z) e))))
             ∙ follows t (walks m (take (k - 1) (drop 1 es)) (p + 1) (p + z) a.places) d (walks m (drop k es) (p + z) e) i
 
-        pub entered : (d : Match) → k ≤ length es → BoundInside m d.places → d.steps ≤ a.steps + 1 + 2 * ((p + z) - (p + 1)) → Group-match true d → Reached m n o most (drop k es) (p + z) e d
+        pub entered : (d : Match) → k ≤ length es → BoundInside m d.places → d.steps ≤ a.steps + 1 + 2 * ((p + z) - (p + 1)) → GroupMatch true d → Reached m n o most (drop k es) (p + z) e d
         entered d j inner few i = record {
-          goes = group-follows true d i;
+          goes = group_follows true d i;
           level = level_drop k es j so.level;
           fit = fits_later so.fit (p + z) (omega arith);
           inside = inner;
-          brief = omega (arith, few, so.brief, size_inside, size-some, ze);
+          brief = omega (arith, few, so.brief, size_inside, size_some, ze);
         }
 
-        pub not_entered : (d : Match) → Group-match false d → ended false d ≡ tick n o
-        not_entered d i = sym (group-follows false d i)
+        pub not_entered : (d : Match) → GroupMatch false d → ended false d ≡ tick n o
+        not_entered d i = sym (group_follows false d i)
 
   -- where no node is left
   pub at_end : e ≤ p → (t : Bool) → (t ≡ true → length es ≡ 0) → (length es ≡ 0 → t ≡ true) → ended t a ≡ tick n o

@@ -103,89 +103,89 @@ pub choose_nothing : (m : Forest) (es : List Element) (p e : ℕ) → e ≤ p �
 choose_nothing m es p e h = ap (choose es) (win_none m p e h)
 
 module _ (m : Forest) (s : Sound m) where
-  one-there : (q : ℕ) → q < length m → size_at m q ≤ 1 → size_at m q ≡ 1
-  one-there q h k = omega (arith, s.sizes q h)
+  one_there : (q : ℕ) → q < length m → size_at m q ≤ 1 → size_at m q ≡ 1
+  one_there q h k = omega (arith, s.sizes q h)
 
-  leaf-there : (q e l : ℕ) → Fits m q e → next (win m q e) ≡ Leaf l → (q < e) × ((size_at m q ≡ 1) × ((get_or m q no_node).label ≡ l))
-  leaf-there q e l f h = ⊎_elim (λ k. (k, size k (ltb 1 (size_at m q)) refl (subst (λ (w : Forest). next w ≡ Leaf l) (win_cons m q e k f.within) h)))
+  leaf_there : (q e l : ℕ) → Fits m q e → next (win m q e) ≡ Leaf l → (q < e) × ((size_at m q ≡ 1) × ((get_or m q no_node).label ≡ l))
+  leaf_there q e l f h = ⊎_elim (λ k. (k, size k (ltb 1 (size_at m q)) refl (subst (λ (w : Forest). next w ≡ Leaf l) (win_cons m q e k f.within) h)))
       (λ k. let z : ◌≡◌ {A = Next} Nothing (Leaf l) = subst (λ (w : Forest). next w ≡ Leaf l) (win_none m q e k) h in let y : ◌≡◌ {A = ℕ} 0 1 = cc in absurd (omega arith)) (cases_lt q e)
     where
       size : q < e → (t : Bool) → ltb 1 (size_at m q) ≡ t → ◌≡◌ {A = Next} (cond t Inner (Leaf (get_or m q no_node).label)) (Leaf l) → (size_at m q ≡ 1) × ((get_or m q no_node).label ≡ l)
       size k true u v = let y : ◌≡◌ {A = ℕ} 0 1 = cc in absurd (omega arith)
-      size k false u v = (one-there q (omega (arith, f.within)) (omega (arith, ltb-false 1 (size_at m q) u)), cc)
+      size k false u v = (one_there q (omega (arith, f.within)) (omega (arith, ltb-false 1 (size_at m q) u)), cc)
 
   module _ (go : Walk) (wins : (es : List Element) (p e : ℕ) (b c : Bindings) → Fits m p e → Goods es → (go es p e b).bound ≡ Some c → Won m es p e b c)
       (p e : ℕ) (f : Fits m p e) (h : p < e) (b c : Bindings) where
-    won-lexeme : size_at m p ≤ 1 → (l : ℕ) (es : List Element) → Goods es → (t : Bool) → eqb l (get_or m p no_node).label ≡ t → (by_rule go m (Lexeme l ∷ es) p (size_at m p) e b (cond t BothGo Stuck)).bound ≡ Some c → Won m (Lexeme l ∷ es) p e b c
-    won-lexeme k l es g true z w = both h (one-there p (omega (arith, f.within)) k) (sym (eqb-true l (get_or m p no_node).label z)) (wins es (p + 1) e b c (fits_later f (p + 1) (omega arith)) g w)
-    won-lexeme k l es g false z w = none_some c w
+    won_lexeme : size_at m p ≤ 1 → (l : ℕ) (es : List Element) → Goods es → (t : Bool) → eqb l (get_or m p no_node).label ≡ t → (by_rule go m (Lexeme l ∷ es) p (size_at m p) e b (cond t BothGo Stuck)).bound ≡ Some c → Won m (Lexeme l ∷ es) p e b c
+    won_lexeme k l es g true z w = both h (one_there p (omega (arith, f.within)) k) (sym (eqb-true l (get_or m p no_node).label z)) (wins es (p + 1) e b c (fits_later f (p + 1) (omega arith)) g w)
+    won_lexeme k l es g false z w = none_some c w
 
-    won-leaf : size_at m p ≤ 1 → (es : List Element) → Goods es → (by_rule go m es p (size_at m p) e b (choose_leaf es (get_or m p no_node).label)).bound ≡ Some c → Won m es p e b c
-    won-leaf k [] g w = none_some c w
-    won-leaf k (Lexeme l ∷ es) g w = won-lexeme k l es g.1 (eqb l (get_or m p no_node).label) refl w
-    won-leaf k (Variable x o ∷ es) g w = none_some c w
-    won-leaf k (Group n ∷ es) g w = none_some c w
+    won_leaf : size_at m p ≤ 1 → (es : List Element) → Goods es → (by_rule go m es p (size_at m p) e b (choose_leaf es (get_or m p no_node).label)).bound ≡ Some c → Won m es p e b c
+    won_leaf k [] g w = none_some c w
+    won_leaf k (Lexeme l ∷ es) g w = won_lexeme k l es g.1 (eqb l (get_or m p no_node).label) refl w
+    won_leaf k (Variable x o ∷ es) g w = none_some c w
+    won_leaf k (Group n ∷ es) g w = none_some c w
 
     module _ (k : 1 < size_at m p) where
-      won-opening : (es : List Element) → Goods es → (by_rule go m es p (size_at m p) e b Open).bound ≡ Some c → Won m es p e b c
-      won-opening es g w = opened h k (wins es (p + 1) e b c (fits_later f (p + 1) (omega arith)) g w)
+      won_opening : (es : List Element) → Goods es → (by_rule go m es p (size_at m p) e b Open).bound ≡ Some c → Won m es p e b c
+      won_opening es g w = opened h k (wins es (p + 1) e b c (fits_later f (p + 1) (omega arith)) g w)
 
-      won-bind : (x : ℕ) (o : Option ℕ) → T (fits o (get_or m p no_node).label) → (es : List Element) → Goods es → (bind m b (get_or b x None) x p (go es (p + size_at m p) e)).bound ≡ Some c → Won m (Variable x o ∷ es) p e b c
-      won-bind x o t es g w =
+      won_bind : (x : ℕ) (o : Option ℕ) → T (fits o (get_or m p no_node).label) → (es : List Element) → Goods es → (bind m b (get_or b x None) x p (go es (p + size_at m p) e)).bound ≡ Some c → Won m (Variable x o ∷ es) p e b c
+      won_bind x o t es g w =
           let (d, i, j) = bind_some m b (get_or b x None) x p (go es (p + size_at m p) e) c refl w in
           put h k t i (wins es (p + size_at m p) e d c (fits_later f (p + size_at m p) (omega arith)) g j)
 
-      won-bind-lexeme : (x : ℕ) (o : Option ℕ) → T (fits o (get_or m p no_node).label) → (l r : ℕ) (es : List Element) → Goods (Variable x o ∷ (Lexeme l ∷ es)) → next (win m (p + size_at m p) e) ≡ Leaf r → (u : Bool) → eqb l r ≡ u →
+      won_bind_lexeme : (x : ℕ) (o : Option ℕ) → T (fits o (get_or m p no_node).label) → (l r : ℕ) (es : List Element) → Goods (Variable x o ∷ (Lexeme l ∷ es)) → next (win m (p + size_at m p) e) ≡ Leaf r → (u : Bool) → eqb l r ≡ u →
           (by_rule go m (Variable x o ∷ (Lexeme l ∷ es)) p (size_at m p) e b (cond u BindBeforeLexeme Open)).bound ≡ Some c → Won m (Variable x o ∷ (Lexeme l ∷ es)) p e b c
-      won-bind-lexeme x o t l r es g z true y w =
+      won_bind_lexeme x o t l r es g z true y w =
           let (d, i, j) = bind_some m b (get_or b x None) x p (go es (p + size_at m p + 1) e) c refl w in
-          let (q, v) = leaf-there (p + size_at m p) e r (fits_later f (p + size_at m p) (omega arith)) z in
+          let (q, v) = leaf_there (p + size_at m p) e r (fits_later f (p + size_at m p) (omega arith)) z in
           put h k t i (both q v.0 (v.1 ∙ sym (eqb-true l r y)) (wins es (p + size_at m p + 1) e d c (fits_later f (p + size_at m p + 1) (omega arith)) g.1.1 j))
-      won-bind-lexeme x o t l r es g z false y w = won-opening (Variable x o ∷ (Lexeme l ∷ es)) g w
+      won_bind_lexeme x o t l r es g z false y w = won_opening (Variable x o ∷ (Lexeme l ∷ es)) g w
 
-      won-last : (x : ℕ) (o : Option ℕ) → T (fits o (get_or m p no_node).label) → (es : List Element) → Goods (Variable x o ∷ es) → (n : Next) → next (win m (p + size_at m p) e) ≡ n →
+      won_last : (x : ℕ) (o : Option ℕ) → T (fits o (get_or m p no_node).label) → (es : List Element) → Goods (Variable x o ∷ es) → (n : Next) → next (win m (p + size_at m p) e) ≡ n →
           (by_rule go m (Variable x o ∷ es) p (size_at m p) e b (choose_last es n)).bound ≡ Some c → Won m (Variable x o ∷ es) p e b c
-      won-last x o t [] g Nothing z w = won-bind x o t [] tt w
-      won-last x o t [] g (Leaf l) z w = won-opening (Variable x o ∷ []) g w
-      won-last x o t [] g Inner z w = won-bind x o t [] tt w
-      won-last x o t (Lexeme l ∷ es) g Nothing z w = won-opening (Variable x o ∷ (Lexeme l ∷ es)) g w
-      won-last x o t (Lexeme l ∷ es) g (Leaf r) z w = won-bind-lexeme x o t l r es g z (eqb l r) refl w
-      won-last x o t (Lexeme l ∷ es) g Inner z w = won-bind x o t (Lexeme l ∷ es) g.1 w
-      won-last x o t (Variable y u ∷ es) g Nothing z w = won-opening (Variable x o ∷ (Variable y u ∷ es)) g w
-      won-last x o t (Variable y u ∷ es) g (Leaf r) z w = won-opening (Variable x o ∷ (Variable y u ∷ es)) g w
-      won-last x o t (Variable y u ∷ es) g Inner z w = won-bind x o t (Variable y u ∷ es) g.1 w
-      won-last x o t (Group n ∷ es) g Nothing z w = won-opening (Variable x o ∷ (Group n ∷ es)) g w
-      won-last x o t (Group n ∷ es) g (Leaf r) z w = won-opening (Variable x o ∷ (Group n ∷ es)) g w
-      won-last x o t (Group n ∷ es) g Inner z w = won-bind x o t (Group n ∷ es) g.1 w
+      won_last x o t [] g Nothing z w = won_bind x o t [] tt w
+      won_last x o t [] g (Leaf l) z w = won_opening (Variable x o ∷ []) g w
+      won_last x o t [] g Inner z w = won_bind x o t [] tt w
+      won_last x o t (Lexeme l ∷ es) g Nothing z w = won_opening (Variable x o ∷ (Lexeme l ∷ es)) g w
+      won_last x o t (Lexeme l ∷ es) g (Leaf r) z w = won_bind_lexeme x o t l r es g z (eqb l r) refl w
+      won_last x o t (Lexeme l ∷ es) g Inner z w = won_bind x o t (Lexeme l ∷ es) g.1 w
+      won_last x o t (Variable y u ∷ es) g Nothing z w = won_opening (Variable x o ∷ (Variable y u ∷ es)) g w
+      won_last x o t (Variable y u ∷ es) g (Leaf r) z w = won_opening (Variable x o ∷ (Variable y u ∷ es)) g w
+      won_last x o t (Variable y u ∷ es) g Inner z w = won_bind x o t (Variable y u ∷ es) g.1 w
+      won_last x o t (Group n ∷ es) g Nothing z w = won_opening (Variable x o ∷ (Group n ∷ es)) g w
+      won_last x o t (Group n ∷ es) g (Leaf r) z w = won_opening (Variable x o ∷ (Group n ∷ es)) g w
+      won_last x o t (Group n ∷ es) g Inner z w = won_bind x o t (Group n ∷ es) g.1 w
 
-      won-variable : (x : ℕ) (o : Option ℕ) (es : List Element) → Goods (Variable x o ∷ es) → (t : Bool) → fits o (get_or m p no_node).label ≡ t →
+      won_variable : (x : ℕ) (o : Option ℕ) (es : List Element) → Goods (Variable x o ∷ es) → (t : Bool) → fits o (get_or m p no_node).label ≡ t →
           (by_rule go m (Variable x o ∷ es) p (size_at m p) e b (cond t (choose_last es (next (win m (p + size_at m p) e))) Open)).bound ≡ Some c → Won m (Variable x o ∷ es) p e b c
-      won-variable x o es g true z w = won-last x o (subst T (sym z) tt) es g (next (win m (p + size_at m p) e)) refl w
-      won-variable x o es g false z w = won-opening (Variable x o ∷ es) g w
+      won_variable x o es g true z w = won_last x o (subst T (sym z) tt) es g (next (win m (p + size_at m p) e)) refl w
+      won_variable x o es g false z w = won_opening (Variable x o ∷ es) g w
 
-      won-enter : (n : ℕ) (es : List Element) → Goods (Group n ∷ es) → (by_rule go m (Group n ∷ es) p (size_at m p) e b Enter).bound ≡ Some c → Won m (Group n ∷ es) p e b c
-      won-enter n es g w =
+      won_enter : (n : ℕ) (es : List Element) → Goods (Group n ∷ es) → (by_rule go m (Group n ∷ es) p (size_at m p) e b Enter).bound ≡ Some c → Won m (Group n ∷ es) p e b c
+      won_enter n es g w =
           let (d, i, j) = after_some (go (take (n - 1) es) (p + 1) (p + size_at m p) b) (go (drop n (Group n ∷ es)) (p + size_at m p) e) c w in
           let y : (go (drop (n - 1) es) (p + size_at m p) e d).bound ≡ Some c = subst (λ (r : List Element). (go r (p + size_at m p) e d).bound ≡ Some c) (drop_group n (Group n) es g.0) j in
           entered h k (wins (take (n - 1) es) (p + 1) (p + size_at m p) b d (fits_inner s p (omega (arith, f.within))) (goods_take (n - 1) es g.1) i)
           (wins (drop (n - 1) es) (p + size_at m p) e d c (fits_later f (p + size_at m p) (omega arith)) (goods_drop (n - 1) es g.1) y)
 
-      won-inner : (es : List Element) → Goods es → (by_rule go m es p (size_at m p) e b (choose_inner es (get_or m p no_node).label (win m (p + size_at m p) e))).bound ≡ Some c → Won m es p e b c
-      won-inner [] g w = none_some c w
-      won-inner (Lexeme l ∷ es) g w = won-opening (Lexeme l ∷ es) g w
-      won-inner (Variable x o ∷ es) g w = won-variable x o es g (fits o (get_or m p no_node).label) refl w
-      won-inner (Group n ∷ es) g w = won-enter n es g w
+      won_inner : (es : List Element) → Goods es → (by_rule go m es p (size_at m p) e b (choose_inner es (get_or m p no_node).label (win m (p + size_at m p) e))).bound ≡ Some c → Won m es p e b c
+      won_inner [] g w = none_some c w
+      won_inner (Lexeme l ∷ es) g w = won_opening (Lexeme l ∷ es) g w
+      won_inner (Variable x o ∷ es) g w = won_variable x o es g (fits o (get_or m p no_node).label) refl w
+      won_inner (Group n ∷ es) g w = won_enter n es g w
 
-    won-some : (es : List Element) → Goods es → (t : Bool) → ltb 1 (size_at m p) ≡ t → (by_rule go m es p (size_at m p) e b (cond t (choose_inner es (get_or m p no_node).label (win m (p + size_at m p) e)) (choose_leaf es (get_or m p no_node).label))).bound ≡ Some c → Won m es p e b c
-    won-some es g true z w = won-inner (ltb-true 1 (size_at m p) z) es g w
-    won-some es g false z w = won-leaf (ltb-false 1 (size_at m p) z) es g w
+    won_some : (es : List Element) → Goods es → (t : Bool) → ltb 1 (size_at m p) ≡ t → (by_rule go m es p (size_at m p) e b (cond t (choose_inner es (get_or m p no_node).label (win m (p + size_at m p) e)) (choose_leaf es (get_or m p no_node).label))).bound ≡ Some c → Won m es p e b c
+    won_some es g true z w = won_inner (ltb-true 1 (size_at m p) z) es g w
+    won_some es g false z w = won_leaf (ltb-false 1 (size_at m p) z) es g w
 
-  won-none : (go : Walk) (es : List Element) (p e : ℕ) (b c : Bindings) → e ≤ p → (by_rule go m es p (size_at m p) e b (choose_none es)).bound ≡ Some c → Won m es p e b c
-  won-none go [] p e b c h w = let z : b ≡ c = cc in subst (λ (d : Bindings). Won m [] p e b d) z (over h)
-  won-none go (a ∷ es) p e b c h w = none_some c w
+  won_none : (go : Walk) (es : List Element) (p e : ℕ) (b c : Bindings) → e ≤ p → (by_rule go m es p (size_at m p) e b (choose_none es)).bound ≡ Some c → Won m es p e b c
+  won_none go [] p e b c h w = let z : b ≡ c = cc in subst (λ (d : Bindings). Won m [] p e b d) z (over h)
+  won_none go (a ∷ es) p e b c h w = none_some c w
 
 pub won : (m : Forest) → Sound m → (n : ℕ) (es : List Element) (p e : ℕ) (b c : Bindings) → Fits m p e → Goods es → (walk n m es p e b).bound ≡ Some c → Won m es p e b c
 won m s zero es p e b c f g w = none_some c w
 won m s (suc n) es p e b c f g w = ⊎_elim
-    (λ h. won-some m s (walk n m) (won m s n) p e f h b c es g (ltb 1 (size_at m p)) refl (subst (λ (r : Rule). (by_rule (walk n m) m es p (size_at m p) e b r).bound ≡ Some c) (choose_some m s es p e f h) w))
-    (λ h. won-none m s (walk n m) es p e b c h (subst (λ (r : Rule). (by_rule (walk n m) m es p (size_at m p) e b r).bound ≡ Some c) (choose_nothing m es p e h) w)) (cases_lt p e)
+    (λ h. won_some m s (walk n m) (won m s n) p e f h b c es g (ltb 1 (size_at m p)) refl (subst (λ (r : Rule). (by_rule (walk n m) m es p (size_at m p) e b r).bound ≡ Some c) (choose_some m s es p e f h) w))
+    (λ h. won_none m s (walk n m) es p e b c h (subst (λ (r : Rule). (by_rule (walk n m) m es p (size_at m p) e b r).bound ≡ Some c) (choose_nothing m es p e h) w)) (cases_lt p e)

@@ -138,24 +138,24 @@ undo_turn : (s : State) (cs : List (List Change)) → s.journal.clicks ≡ cs �
 undo_turn s cs e o = λ i. cond (is_some (o i)) (s, refused 2 6 0 0) (undo_first s (e i))
 
 module _ (b : Forest) where
-  undo-accepted : (cs : List (List Change)) (ts : List Standing) (s : State) → s.journal.clicks ≡ cs → s.journal.click ≡ None → Chain b s.tree cs ts → (n : ℕ) → n < length ts → answer (run s (replicate n undo)) undo ≡ done
-  undo-accepted cs [] s e o h n i = absurd (omega arith)
-  undo-accepted [] (t ∷ ts) s e o h n i = absurd h
-  undo-accepted (c ∷ cs) (t ∷ ts) s e o h zero i = ap (λ (x : Turn). x.1) (undo_turn s (c ∷ cs) e o)
-  undo-accepted (c ∷ cs) (t ∷ ts) s e o h (suc n) i = ap (λ (x : Turn). answer (run x.0 (replicate n undo)) undo) (undo_turn s (c ∷ cs) e o) ∙ undo-accepted cs ts (undo_first s (c ∷ cs)).0 refl refl (chain_rest b s.tree c cs (t ∷ ts) h) n (omega arith)
+  undo_accepted : (cs : List (List Change)) (ts : List Standing) (s : State) → s.journal.clicks ≡ cs → s.journal.click ≡ None → Chain b s.tree cs ts → (n : ℕ) → n < length ts → answer (run s (replicate n undo)) undo ≡ done
+  undo_accepted cs [] s e o h n i = absurd (omega arith)
+  undo_accepted [] (t ∷ ts) s e o h n i = absurd h
+  undo_accepted (c ∷ cs) (t ∷ ts) s e o h zero i = ap (λ (x : Turn). x.1) (undo_turn s (c ∷ cs) e o)
+  undo_accepted (c ∷ cs) (t ∷ ts) s e o h (suc n) i = ap (λ (x : Turn). answer (run x.0 (replicate n undo)) undo) (undo_turn s (c ∷ cs) e o) ∙ undo_accepted cs ts (undo_first s (c ∷ cs)).0 refl refl (chain_rest b s.tree c cs (t ∷ ts) h) n (omega arith)
 
-  undo-one : (cs : List (List Change)) (ts : List Standing) (s : State) → s.journal.clicks ≡ cs → s.journal.click ≡ None → Chain b s.tree cs ts → (n : ℕ) → n < length ts → (after (run s (replicate n undo)) undo).tree ≡ (get_or ts n no_click).opened_on
-  undo-one cs [] s e o h n i = absurd (omega arith)
-  undo-one [] (t ∷ ts) s e o h n i = absurd h
-  undo-one (c ∷ cs) (t ∷ ts) s e o h zero i = ap (λ (x : Turn). x.0.tree) (undo_turn s (c ∷ cs) e o) ∙ h.0
-  undo-one (c ∷ cs) (t ∷ ts) s e o h (suc n) i = ap (λ (x : Turn). (after (run x.0 (replicate n undo)) undo).tree) (undo_turn s (c ∷ cs) e o) ∙ undo-one cs ts (undo_first s (c ∷ cs)).0 refl refl (chain_rest b s.tree c cs (t ∷ ts) h) n (omega arith)
+  undo_one : (cs : List (List Change)) (ts : List Standing) (s : State) → s.journal.clicks ≡ cs → s.journal.click ≡ None → Chain b s.tree cs ts → (n : ℕ) → n < length ts → (after (run s (replicate n undo)) undo).tree ≡ (get_or ts n no_click).opened_on
+  undo_one cs [] s e o h n i = absurd (omega arith)
+  undo_one [] (t ∷ ts) s e o h n i = absurd h
+  undo_one (c ∷ cs) (t ∷ ts) s e o h zero i = ap (λ (x : Turn). x.0.tree) (undo_turn s (c ∷ cs) e o) ∙ h.0
+  undo_one (c ∷ cs) (t ∷ ts) s e o h (suc n) i = ap (λ (x : Turn). (after (run x.0 (replicate n undo)) undo).tree) (undo_turn s (c ∷ cs) e o) ∙ undo_one cs ts (undo_first s (c ∷ cs)).0 refl refl (chain_rest b s.tree c cs (t ∷ ts) h) n (omega arith)
 
-  undo-last : (cs : List (List Change)) (ts : List Standing) (s : State) → s.journal.clicks ≡ cs → s.journal.click ≡ None → Chain b s.tree cs ts → (answer (run s (replicate (length ts) undo)) undo ≡ refused 8 6 0 0) × ((run s (replicate (length ts) undo)).tree ≡ b)
-  undo-last [] [] s e o h = (ap (λ (x : Turn). x.1) (undo_turn s [] e o), h)
-  undo-last [] (t ∷ ts) s e o h = absurd h
-  undo-last (c ∷ cs) [] s e o h = absurd h
-  undo-last (c ∷ cs) (t ∷ ts) s e o h =
-      let z = undo-last cs ts (undo_first s (c ∷ cs)).0 refl refl (chain_rest b s.tree c cs (t ∷ ts) h) in
+  undo_last : (cs : List (List Change)) (ts : List Standing) (s : State) → s.journal.clicks ≡ cs → s.journal.click ≡ None → Chain b s.tree cs ts → (answer (run s (replicate (length ts) undo)) undo ≡ refused 8 6 0 0) × ((run s (replicate (length ts) undo)).tree ≡ b)
+  undo_last [] [] s e o h = (ap (λ (x : Turn). x.1) (undo_turn s [] e o), h)
+  undo_last [] (t ∷ ts) s e o h = absurd h
+  undo_last (c ∷ cs) [] s e o h = absurd h
+  undo_last (c ∷ cs) (t ∷ ts) s e o h =
+      let z = undo_last cs ts (undo_first s (c ∷ cs)).0 refl refl (chain_rest b s.tree c cs (t ∷ ts) h) in
       (ap (λ (x : Turn). answer (run x.0 (replicate (length ts) undo)) undo) (undo_turn s (c ∷ cs) e o) ∙ z.0, ap (λ (x : Turn). (run x.0 (replicate (length ts) undo)).tree) (undo_turn s (c ∷ cs) e o) ∙ z.1)
 
 -- what is answered where a test holds, and where it fails
@@ -195,49 +195,49 @@ chain_head b m c cs (t ∷ ts) h = h.0
 
 -- by the log, a click is open or none is, and calls are accepted accordingly
 module _ (s : State) (k : Log) (h : Follows s k) where
-  open-now : k.clicks.is_open ≡ true → is_open s ≡ true
-  open-now o = h.open_too ∙ o
+  open_now : k.clicks.is_open ≡ true → is_open s ≡ true
+  open_now o = h.open_too ∙ o
 
-  closed-now : k.clicks.is_open ≡ false → s.journal.click ≡ None
-  closed-now o = none_there s.journal.click (h.open_too ∙ o)
+  closed_now : k.clicks.is_open ≡ false → s.journal.click ≡ None
+  closed_now o = none_there s.journal.click (h.open_too ∙ o)
 
-  chain-open : k.clicks.is_open ≡ true → Chain k.clicks.settled s.tree (opened s ∷ s.journal.clicks) k.clicks.standing
-  chain-open o = when_open s k (some_there s.journal.click (open-now o)) h
+  chain_open : k.clicks.is_open ≡ true → Chain k.clicks.settled s.tree (opened s ∷ s.journal.clicks) k.clicks.standing
+  chain_open o = when_open s k (some_there s.journal.click (open_now o)) h
 
-  standing-count : k.clicks.is_open ≡ false → length s.journal.clicks ≡ length k.clicks.standing
-  standing-count o = chain_length k.clicks.settled s.tree s.journal.clicks k.clicks.standing (when_closed s k (closed-now o) h)
+  standing_count : k.clicks.is_open ≡ false → length s.journal.clicks ≡ length k.clicks.standing
+  standing_count o = chain_length k.clicks.settled s.tree s.journal.clicks k.clicks.standing (when_closed s k (closed_now o) h)
 
-  held-count : k.clicks.is_open ≡ true → length (opened s) + total_changes s.journal.clicks ≡ changes_held k.clicks.standing
-  held-count o = chain_changes k.clicks.settled s.tree (opened s ∷ s.journal.clicks) k.clicks.standing (chain-open o)
+  held_count : k.clicks.is_open ≡ true → length (opened s) + total_changes s.journal.clicks ≡ changes_held k.clicks.standing
+  held_count o = chain_changes k.clicks.settled s.tree (opened s ∷ s.journal.clicks) k.clicks.standing (chain_open o)
 
-  pub undos-bring-back : k.clicks.is_open ≡ false → UndosBringBack s k
-  undos-bring-back o =
-      let e : s.journal.click ≡ None = closed-now o in
+  pub undos_bring_back : k.clicks.is_open ≡ false → UndosBringBack s k
+  undos_bring_back o =
+      let e : s.journal.click ≡ None = closed_now o in
       let c : Chain k.clicks.settled s.tree s.journal.clicks k.clicks.standing = when_closed s k e h in
-      let z = undo-last k.clicks.settled s.journal.clicks k.clicks.standing s refl e c in
-      let n : undoable k ≡ length k.clicks.standing = omega (arith, h.counted, standing-count o) in
+      let z = undo_last k.clicks.settled s.journal.clicks k.clicks.standing s refl e c in
+      let n : undoable k ≡ length k.clicks.standing = omega (arith, h.counted, standing_count o) in
       record {
-        counted = omega (arith, h.counted, standing-count o);
-        accepted = λ i l. undo-accepted k.clicks.settled s.journal.clicks k.clicks.standing s refl e c i (omega arith);
-        one_back = λ i l. undo-one k.clicks.settled s.journal.clicks k.clicks.standing s refl e c i (omega arith);
+        counted = omega (arith, h.counted, standing_count o);
+        accepted = λ i l. undo_accepted k.clicks.settled s.journal.clicks k.clicks.standing s refl e c i (omega arith);
+        one_back = λ i l. undo_one k.clicks.settled s.journal.clicks k.clicks.standing s refl e c i (omega arith);
         then_none = ap (λ (x : ℕ). answer (run s (replicate x undo)) undo) n ∙ z.0;
         all_back = ap (λ (x : ℕ). (run s (replicate x undo)).tree) n ∙ z.1;
       }
 
   -- a call without a receipt while a click is open, and one with the wrong receipt
   click_open : k.clicks.is_open ≡ true → (c : Call) → receipt_of c ≡ None → answer s c ≡ refused 2 6 0 0
-  click_open o open_click e = stops (is_open s) _ _ (open-now o)
+  click_open o open_click e = stops (is_open s) _ _ (open_now o)
   click_open o (change n p l) e = cc
   click_open o (commit n) e = cc
   click_open o (abandon n) e = cc
-  click_open o undo e = stops (is_open s) _ _ (open-now o)
-  click_open o settle e = stops (is_open s) _ _ (open-now o)
-  click_open o (add p) e = stops (is_open s) _ _ (open-now o)
-  click_open o rebuild e = stops (is_open s) _ _ (open-now o)
-  click_open o (ask q) e = cond-true (is_open s) _ _ (open-now o)
+  click_open o undo e = stops (is_open s) _ _ (open_now o)
+  click_open o settle e = stops (is_open s) _ _ (open_now o)
+  click_open o (add p) e = stops (is_open s) _ _ (open_now o)
+  click_open o rebuild e = stops (is_open s) _ _ (open_now o)
+  click_open o (ask q) e = cond-true (is_open s) _ _ (open_now o)
 
-  wrong-here : (n : ℕ) → (k.clicks.is_open ≡ false) ⊎ (n ≡ s.name → ⊥) → wrong s n ≡ true
-  wrong-here n w = ap not (⊎_elim (λ o. and_left (is_open s) (eqb n s.name) (h.open_too ∙ o)) (λ d. and_right (is_open s) (eqb n s.name) (ne_eqb n s.name d)) w)
+  wrong_here : (n : ℕ) → (k.clicks.is_open ≡ false) ⊎ (n ≡ s.name → ⊥) → wrong s n ≡ true
+  wrong_here n w = ap not (⊎_elim (λ o. and_left (is_open s) (eqb n s.name) (h.open_too ∙ o)) (λ d. and_right (is_open s) (eqb n s.name) (ne_eqb n s.name d)) w)
 
   wrong_click : (c : Call) (n : ℕ) → receipt_of c ≡ Some n → wrong s n ≡ true → answer s c ≡ refused 1 6 0 0
   wrong_click open_click n e w = cc
@@ -250,12 +250,12 @@ module _ (s : State) (k : Log) (h : Follows s k) where
   wrong_click rebuild n e w = cc
   wrong_click (ask q) n e w = cc
 
-  right-here : k.clicks.is_open ≡ true → wrong s s.name ≡ false
-  right-here o = ap not (and_from (is_open s) (eqb s.name s.name) (open-now o) (eq-eqb s.name s.name refl))
+  right_here : k.clicks.is_open ≡ true → wrong s s.name ≡ false
+  right_here o = ap not (and_from (is_open s) (eqb s.name s.name) (open_now o) (eq-eqb s.name s.name refl))
 
   -- a change with the right receipt, at a place of the tree
-  change-inside : k.clicks.is_open ≡ true → (p l : ℕ) → p < length s.tree → answer s (change s.name p l) ≡ cond (leb 256 (changes_held k.clicks.standing)) (refused 7 6 0 0) (cond (ltb 32767 l) (refused 10 5 0 0) done)
-  change-inside o p l i = passes (wrong s s.name) _ _ (right-here o) ∙ passes (leb (places s) p) _ _ (lt-leb (places s) p i) ∙ go (leb 256 (length (opened s) + total_changes s.journal.clicks)) (ltb 32767 l) _ ∙ ap (λ (n : ℕ). cond (leb 256 n) (refused 7 6 0 0) (cond (ltb 32767 l) (refused 10 5 0 0) done)) (held-count o)
+  change_inside : k.clicks.is_open ≡ true → (p l : ℕ) → p < length s.tree → answer s (change s.name p l) ≡ cond (leb 256 (changes_held k.clicks.standing)) (refused 7 6 0 0) (cond (ltb 32767 l) (refused 10 5 0 0) done)
+  change_inside o p l i = passes (wrong s s.name) _ _ (right_here o) ∙ passes (leb (places s) p) _ _ (lt-leb (places s) p i) ∙ go (leb 256 (length (opened s) + total_changes s.journal.clicks)) (ltb 32767 l) _ ∙ ap (λ (n : ℕ). cond (leb 256 n) (refused 7 6 0 0) (cond (ltb 32767 l) (refused 10 5 0 0) done)) (held_count o)
     where
       go : (t u : Bool) (b : State) → (cond {A = Turn} t (s, refused 7 6 0 0) (cond {A = Turn} u (s, refused 10 5 0 0) (b, done))).1 ≡ cond t (refused 7 6 0 0) (cond u (refused 10 5 0 0) done)
       go true u b = refl
@@ -265,15 +265,15 @@ module _ (s : State) (k : Log) (h : Follows s k) where
   pub accepted : (k.clicks.is_open ≡ false → answer s rebuild ≡ steps (work s k)) → Accepted s k
   accepted works = record {
     click_open = click_open;
-    wrong_click = λ c n e w. wrong_click c n e (wrong-here n w);
-    opening = λ o i. passes (is_open s) _ _ (h.open_too ∙ o) ∙ passes (leb 64 (length s.journal.clicks)) _ _ (lt-leb 64 (length s.journal.clicks) (omega (arith, standing-count o)));
-    no_65th_click = λ o i. passes (is_open s) _ _ (h.open_too ∙ o) ∙ stops (leb 64 (length s.journal.clicks)) _ _ (le-leb 64 (length s.journal.clicks) (omega (arith, standing-count o)));
-    changing = λ o p l i j x. change-inside o p l i ∙ cond-false (leb 256 (changes_held k.clicks.standing)) _ _ (lt-leb 256 (changes_held k.clicks.standing) j) ∙ cond-false (ltb 32767 l) _ _ (le-ltb 32767 l (omega arith));
-    no_such_place = λ o p l i. passes (wrong s s.name) _ _ (right-here o) ∙ stops (leb (places s) p) _ _ (le-leb (places s) p i);
-    no_257th_change = λ o p l i j. change-inside o p l i ∙ cond-true (leb 256 (changes_held k.clicks.standing)) _ _ (le-leb 256 (changes_held k.clicks.standing) j);
-    bad_label = λ o p l i j x. change-inside o p l i ∙ cond-false (leb 256 (changes_held k.clicks.standing)) _ _ (lt-leb 256 (changes_held k.clicks.standing) j) ∙ cond-true (ltb 32767 l) _ _ (lt-ltb 32767 l (omega arith));
-    committing = λ o. passes (wrong s s.name) _ _ (right-here o);
-    abandoning = λ o. passes (wrong s s.name) _ _ (right-here o);
+    wrong_click = λ c n e w. wrong_click c n e (wrong_here n w);
+    opening = λ o i. passes (is_open s) _ _ (h.open_too ∙ o) ∙ passes (leb 64 (length s.journal.clicks)) _ _ (lt-leb 64 (length s.journal.clicks) (omega (arith, standing_count o)));
+    no_65th_click = λ o i. passes (is_open s) _ _ (h.open_too ∙ o) ∙ stops (leb 64 (length s.journal.clicks)) _ _ (le-leb 64 (length s.journal.clicks) (omega (arith, standing_count o)));
+    changing = λ o p l i j x. change_inside o p l i ∙ cond-false (leb 256 (changes_held k.clicks.standing)) _ _ (lt-leb 256 (changes_held k.clicks.standing) j) ∙ cond-false (ltb 32767 l) _ _ (le-ltb 32767 l (omega arith));
+    no_such_place = λ o p l i. passes (wrong s s.name) _ _ (right_here o) ∙ stops (leb (places s) p) _ _ (le-leb (places s) p i);
+    no_257th_change = λ o p l i j. change_inside o p l i ∙ cond-true (leb 256 (changes_held k.clicks.standing)) _ _ (le-leb 256 (changes_held k.clicks.standing) j);
+    bad_label = λ o p l i j x. change_inside o p l i ∙ cond-false (leb 256 (changes_held k.clicks.standing)) _ _ (lt-leb 256 (changes_held k.clicks.standing) j) ∙ cond-true (ltb 32767 l) _ _ (lt-ltb 32767 l (omega arith));
+    committing = λ o. passes (wrong s s.name) _ _ (right_here o);
+    abandoning = λ o. passes (wrong s s.name) _ _ (right_here o);
     settling = λ o. passes (is_open s) _ _ (h.open_too ∙ o) ∙ ap number (omega (arith, h.counted));
     adding = λ o i p. passes (is_open s) _ _ (h.open_too ∙ o) ∙ passes (leb 16 (length s.patterns)) _ _ (lt-leb 16 (length s.patterns) i);
     no_17th_pattern = λ o i p. passes (is_open s) _ _ (h.open_too ∙ o) ∙ stops (leb 16 (length s.patterns)) _ _ (le-leb 16 (length s.patterns) i);
@@ -281,4 +281,4 @@ module _ (s : State) (k : Log) (h : Follows s k) where
   }
 
   pub abandon_brings_back : k.clicks.is_open ≡ true → (after s (abandon s.name)).tree ≡ (get_or k.clicks.standing 0 no_click).opened_on
-  abandon_brings_back o = ap (λ (x : Turn). x.0.tree) (cond-false (wrong s s.name) _ _ (right-here o)) ∙ chain_head k.clicks.settled s.tree (opened s) s.journal.clicks k.clicks.standing (chain-open o)
+  abandon_brings_back o = ap (λ (x : Turn). x.0.tree) (cond-false (wrong s s.name) _ _ (right_here o)) ∙ chain_head k.clicks.settled s.tree (opened s) s.journal.clicks k.clicks.standing (chain_open o)

@@ -8,10 +8,10 @@ use Rattle.runs.specs.Session.{State, Call, open_click, change, commit, abandon,
 use Rattle.runs.specs.Log.{after, answer, run, answers, new_log, Log, log_of}
 use Rattle.runs.specs.Runs.{Reached, EveryState, EveryRun, Played, PlayedBoth}
 use Rattle.runs.proofs.Turns.{none_there, effects}
-use Rattle.runs.proofs.Back.{Follows, follows_making, follows_run, accepted, undos-bring-back, abandon_brings_back}
+use Rattle.runs.proofs.Back.{Follows, follows_making, follows_run, accepted, undos_bring_back, abandon_brings_back}
 use Rattle.runs.proofs.Marking.{Steady, steady}
 use Rattle.runs.proofs.Findings.{after_a_rebuild, same_answers, questions}
-use Rattle.runs.proofs.Trying.{rebuild-works}
+use Rattle.runs.proofs.Trying.{rebuild_works}
 
 every_state : (m : Forest) (a : ℕ) (cs : List Call) (s : State) → Reached m a cs s → EveryState s (log_of m a cs)
 every_state m a cs s r =
@@ -20,11 +20,11 @@ every_state m a cs s r =
     let f : Follows s k = subst (λ (t : State). Follows t k) r.by_calls (follows_run (making m a) cs (new_log m) (follows_making m a)) in
     record {
       law_of_trees = h.law;
-      accepted = accepted s k f (λ o. rebuild-works s k h f (none_there s.journal.click (f.open_too ∙ o)));
+      accepted = accepted s k f (λ o. rebuild_works s k h f (none_there s.journal.click (f.open_too ∙ o)));
       effects = effects s;
       questions = questions s k h f;
       what_is_found_is_right = after_a_rebuild s h;
-      undo_brings_back = undos-bring-back s k f;
+      undo_brings_back = undos_bring_back s k f;
       abandon_brings_back = abandon_brings_back s k f;
     }
 

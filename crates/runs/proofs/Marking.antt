@@ -131,11 +131,11 @@ steady_put s h cs x =
 
 -- a new pattern
 module _ (ps : List (List Element)) (p : List Element) where
-  added-old : (j : ℕ) → j < length ps → get_or (ps ++ (p ∷ [])) j [] ≡ get_or ps j []
-  added-old j h = get_or-append ps (p ∷ []) [] j h
+  added_old : (j : ℕ) → j < length ps → get_or (ps ++ (p ∷ [])) j [] ≡ get_or ps j []
+  added_old j h = get_or-append ps (p ∷ []) [] j h
 
-  added-paired : WellFormed p → ((j : ℕ) → j < length ps → WellFormed (get_or ps j [])) → (j : ℕ) → j < length (ps ++ (p ∷ [])) → WellFormed (get_or (ps ++ (p ∷ [])) j [])
-  added-paired g h j k = ⊎_elim (λ l. subst WellFormed (sym (added-old j l)) (h j l))
+  added_paired : WellFormed p → ((j : ℕ) → j < length ps → WellFormed (get_or ps j [])) → (j : ℕ) → j < length (ps ++ (p ∷ [])) → WellFormed (get_or (ps ++ (p ∷ [])) j [])
+  added_paired g h j k = ⊎_elim (λ l. subst WellFormed (sym (added_old j l)) (h j l))
       (λ (l : length ps ≤ j). subst WellFormed (sym (get_or_at ps p [] [] j (omega (arith, length-append ps (p ∷ []))))) g) (cases_lt j (length ps))
 
 steady_added : (s : State) → Steady s → (p : List Element) → WellFormed p → length s.patterns < 16 → Steady (extending s p)
@@ -146,9 +146,9 @@ steady_added s h p g k = record {
   touches = h.touches;
   rows = h.rows;
   few = omega (arith, length-append s.patterns (p ∷ []));
-  paired = added-paired s.patterns p g h.paired;
+  paired = added_paired s.patterns p g h.paired;
   behind = omega (arith, h.behind, length-append s.patterns (p ∷ []));
-  right = λ i j a b n. h.right i j a b n ∙ ap (λ (es : List Element). is_some (match_at_lem s.tree es i).bound) (sym (added-old s.patterns p j (omega (arith, h.behind))));
+  right = λ i j a b n. h.right i j a b n ∙ ap (λ (es : List Element). is_some (match_at_lem s.tree es i).bound) (sym (added_old s.patterns p j (omega (arith, h.behind))));
   fresh = λ e. absurd (both_ways true e refl);
 }
 

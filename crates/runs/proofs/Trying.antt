@@ -48,21 +48,21 @@ total_alike f g zero h = refl
 total_alike f g (suc n) h = omega (arith, total_alike f g n (λ i k. h i (omega arith)), h n (omega arith))
 
 module _ (s : State) (k : Log) (h : Steady s) (f : Follows s k) where
-  new-alike : (j : ℕ) → leb s.look.tried j ≡ leb (length s.patterns) (j + k.since_rebuild.added)
-  new-alike j = ⊎_elim
+  new_alike : (j : ℕ) → leb s.look.tried j ≡ leb (length s.patterns) (j + k.since_rebuild.added)
+  new_alike j = ⊎_elim
       (λ (l : j < s.look.tried). lt-leb s.look.tried j l ∙ sym (lt-leb (length s.patterns) (j + k.since_rebuild.added) (omega (arith, f.added_too))))
       (λ (l : s.look.tried ≤ j). le-leb s.look.tried j l ∙ sym (le-leb (length s.patterns) (j + k.since_rebuild.added) (omega (arith, f.added_too)))) (cases_lt j s.look.tried)
 
-  tries-alike : (i j : ℕ) → i < length s.tree → j < length s.patterns → tries s i j ≡ is_tried_lem s k i j
-  tries-alike i j x y =
+  tries_alike : (i j : ℕ) → i < length s.tree → j < length s.patterns → tries s i j ≡ is_tried_lem s k i j
+  tries_alike i j x y =
       let a : ltb j (length s.patterns) ≡ true = lt-ltb j (length s.patterns) y in
-      let b : leb s.look.tried j ≡ leb (length s.patterns) (j + k.since_rebuild.added) = new-alike j in
+      let b : leb s.look.tried j ≡ leb (length s.patterns) (j + k.since_rebuild.added) = new_alike j in
       let c : subtree_touched s i ≡ one_inside k.since_rebuild.touched i (size_at s.tree i) = touched_inside s.look.touched k.since_rebuild.touched i (size_at s.tree i) (omega (arith, h.touches, ends_inside s.tree h.law i x)) f.touched_too in
       λ r. a r && (b r || c r)
 
-  pub rebuild-works : s.journal.click ≡ None → answer s rebuild ≡ steps (work s k)
-  rebuild-works o =
+  pub rebuild_works : s.journal.click ≡ None → answer s rebuild ≡ steps (work s k)
+  rebuild_works o =
       ap (λ (t : Turn). t.1) (rebuild_closed s o)
       ∙ ap steps (total_alike _ _ (length s.patterns) (λ j y.
-      total_alike _ _ (length s.look.marks) (λ i x. ap (λ (t : Bool). cond t (result s i j).steps 0) (tries-alike i j (omega (arith, h.rows)) y))
+      total_alike _ _ (length s.look.marks) (λ i x. ap (λ (t : Bool). cond t (result s i j).steps 0) (tries_alike i j (omega (arith, h.rows)) y))
       ∙ ap (total (λ i. cond (is_tried_lem s k i j) (result s i j).steps 0)) h.rows))

@@ -67,36 +67,36 @@ set_last : {X : Type 0} (xs : List X) (n : ℕ) (y : X) → length xs ≡ n + 1 
 set_last xs n y e = set_split xs n y (omega arith) ∙ ap (λ ys. take n xs ++ (y ∷ ys)) (drop_all (suc n) xs (omega arith))
 
 module _ (ks : List Click) (n : ℕ) (d : Click) (e : length ks ≡ n + 1) where
-  counts-last : counts ks ≡ (get_or ks n d).changes ∷ counts (take n ks)
-  counts-last = ap counts (snoc ks n d e) ∙ counts_push (take n ks) (get_or ks n d)
+  counts_last : counts ks ≡ (get_or ks n d).changes ∷ counts (take n ks)
+  counts_last = ap counts (snoc ks n d e) ∙ counts_push (take n ks) (get_or ks n d)
 
-  counts-set : (y : Click) → counts (set ks n y) ≡ y.changes ∷ counts (take n ks)
-  counts-set y = ap counts (set_last ks n y e) ∙ counts_push (take n ks) y
+  counts_set : (y : Click) → counts (set ks n y) ≡ y.changes ∷ counts (take n ks)
+  counts_set y = ap counts (set_last ks n y e) ∙ counts_push (take n ks) y
 
-  held-last : (rs : List Replaced) → held ks rs ≡ take (get_or ks n d).changes (newest rs) ∷ dealt (counts (take n ks)) (drop (get_or ks n d).changes (newest rs))
-  held-last rs = ap (λ ns. dealt ns (newest rs)) counts-last
+  held_last : (rs : List Replaced) → held ks rs ≡ take (get_or ks n d).changes (newest rs) ∷ dealt (counts (take n ks)) (drop (get_or ks n d).changes (newest rs))
+  held_last rs = ap (λ ns. dealt ns (newest rs)) counts_last
 
-  held-set : (y : Click) (m : ℕ) (rs : List Replaced) (r : Replaced) → y.changes ≡ m + 1 → held (set ks n y) (rs ++ (r ∷ [])) ≡ (change_of r ∷ take m (newest rs)) ∷ dealt (counts (take n ks)) (drop m (newest rs))
-  held-set y m rs r h =
-      ap (λ ns. dealt ns (newest (rs ++ (r ∷ [])))) (counts-set y)
+  held_set : (y : Click) (m : ℕ) (rs : List Replaced) (r : Replaced) → y.changes ≡ m + 1 → held (set ks n y) (rs ++ (r ∷ [])) ≡ (change_of r ∷ take m (newest rs)) ∷ dealt (counts (take n ks)) (drop m (newest rs))
+  held_set y m rs r h =
+      ap (λ ns. dealt ns (newest (rs ++ (r ∷ [])))) (counts_set y)
       ∙ ap (dealt (y.changes ∷ counts (take n ks))) (newest_push rs r)
       ∙ ap (λ k. dealt (k ∷ counts (take n ks)) (change_of r ∷ newest rs)) (h ∙ add-one m)
 
   -- one change more
-  pub held-noted : (y : Click) (rs : List Replaced) (r : Replaced) → y.changes ≡ (get_or ks n d).changes + 1 → held (set ks n y) (rs ++ (r ∷ [])) ≡ (change_of r ∷ get_or (held ks rs) 0 []) ∷ drop 1 (held ks rs)
-  held-noted y rs r h = held-set y (get_or ks n d).changes rs r h ∙ sym (ap (λ gs. (change_of r ∷ get_or gs 0 []) ∷ drop 1 gs) (held-last rs))
+  pub held_noted : (y : Click) (rs : List Replaced) (r : Replaced) → y.changes ≡ (get_or ks n d).changes + 1 → held (set ks n y) (rs ++ (r ∷ [])) ≡ (change_of r ∷ get_or (held ks rs) 0 []) ∷ drop 1 (held ks rs)
+  held_noted y rs r h = held_set y (get_or ks n d).changes rs r h ∙ sym (ap (λ gs. (change_of r ∷ get_or gs 0 []) ∷ drop 1 gs) (held_last rs))
 
   -- one change less
-  pub held-taken : (y : Click) (rs : List Replaced) (r : Replaced) → (get_or ks n d).changes ≡ y.changes + 1 → held ks (rs ++ (r ∷ [])) ≡ (change_of r ∷ get_or (held (set ks n y) rs) 0 []) ∷ drop 1 (held (set ks n y) rs)
-  held-taken y rs r h =
-      held-last (rs ++ (r ∷ []))
+  pub held_taken : (y : Click) (rs : List Replaced) (r : Replaced) → (get_or ks n d).changes ≡ y.changes + 1 → held ks (rs ++ (r ∷ [])) ≡ (change_of r ∷ get_or (held (set ks n y) rs) 0 []) ∷ drop 1 (held (set ks n y) rs)
+  held_taken y rs r h =
+      held_last (rs ++ (r ∷ []))
       ∙ ap (λ cs. take (get_or ks n d).changes cs ∷ dealt (counts (take n ks)) (drop (get_or ks n d).changes cs)) (newest_push rs r)
       ∙ ap (λ k. take k (change_of r ∷ newest rs) ∷ dealt (counts (take n ks)) (drop k (change_of r ∷ newest rs))) (h ∙ add-one y.changes)
-      ∙ sym (ap (λ gs. (change_of r ∷ get_or gs 0 []) ∷ drop 1 gs) (ap (λ ns. dealt ns (newest rs)) (counts-set y)))
+      ∙ sym (ap (λ gs. (change_of r ∷ get_or gs 0 []) ∷ drop 1 gs) (ap (λ ns. dealt ns (newest rs)) (counts_set y)))
 
   -- no change there
-  pub held-empty : (rs : List Replaced) → (get_or ks n d).changes ≡ 0 → get_or (held ks rs) 0 [] ≡ []
-  held-empty rs h = ap (λ gs. get_or gs 0 []) (held-last rs) ∙ ap (λ k. take k (newest rs)) h
+  pub held_empty : (rs : List Replaced) → (get_or ks n d).changes ≡ 0 → get_or (held ks rs) 0 [] ≡ []
+  held_empty rs h = ap (λ gs. get_or gs 0 []) (held_last rs) ∙ ap (λ k. take k (newest rs)) h
 
 -- a click that begins
 pub held_begun : (ks : List Click) (rs : List Replaced) → held (ks ++ (record { changes = 0 } ∷ [])) rs ≡ [] ∷ held ks rs

@@ -48,8 +48,8 @@ tabulate_more : {A : Type 0} (f : ℕ → A) (n : ℕ) → tabulate f (n + 1) �
 tabulate_more f n = ap (tabulate f) (add-one n)
 
 module _ {A : Type 0} (f : ℕ → A) (xs : List A) (p : ℕ) (d : A) (h : p < length xs) where
-  pub written-more : set (tabulate f p ++ drop p xs) p (f p) ≡ tabulate f (p + 1) ++ drop (p + 1) xs
-  written-more =
+  pub written_more : set (tabulate f p ++ drop p xs) p (f p) ≡ tabulate f (p + 1) ++ drop (p + 1) xs
+  written_more =
       ap (λ y. set (tabulate f p ++ y) p (f p)) (drop_more xs p d h)
       ∙ set_at (tabulate f p) (get_or xs p d) (drop (p + 1) xs) (f p) p (length_tabulate f p)
       ∙ sym (append_assoc (tabulate f p) (f p ∷ []) (drop (p + 1) xs))
@@ -122,25 +122,25 @@ module _ (m : Forest) (ps : List (List Element)) (k : ℕ) (t : List Bool) (rows
   row_is : (n i : ℕ) → i < length rows → get_or (all_rows m ps k t rows (suc n)) i [] ≡ tried_row m (get_or ps n []) n (leb k n) t (all_rows m ps k t rows n) i
   row_is n i h = get_d_tabulate (tried_row m (get_or ps n []) n (leb k n) t (all_rows m ps k t rows n)) (length (all_rows m ps k t rows n)) i [] (omega (arith, rows_long n))
 
-  row-wide : (n i : ℕ) → i < length rows → length (get_or (all_rows m ps k t rows n) i []) ≡ 16
-  row-wide zero i h = wide i h
-  row-wide (suc n) i h =
+  row_wide : (n i : ℕ) → i < length rows → length (get_or (all_rows m ps k t rows n) i []) ≡ 16
+  row_wide zero i h = wide i h
+  row_wide (suc n) i h =
       ap length (row_is n i h)
       ∙ cond_both (leb k n || get_or t i false) (set (get_or (all_rows m ps k t rows n) i []) n (is_some (match_at_lem m (get_or ps n []) i).bound)) (get_or (all_rows m ps k t rows n) i []) (λ x. length x ≡ 16)
-      (λ _. length-set (get_or (all_rows m ps k t rows n) i []) n (is_some (match_at_lem m (get_or ps n []) i).bound) ∙ row-wide n i h)
-      (λ _. row-wide n i h)
+      (λ _. length-set (get_or (all_rows m ps k t rows n) i []) n (is_some (match_at_lem m (get_or ps n []) i).bound) ∙ row_wide n i h)
+      (λ _. row_wide n i h)
 
   -- what a row has at q
-  abbrev mark-at : ℕ → ℕ → ℕ → Bool
-  mark-at n i q = cond (ltb q n && (leb k q || get_or t i false)) (is_some (match_at_lem m (get_or ps q []) i).bound) (get_or (get_or rows i []) q false)
+  abbrev mark_at : ℕ → ℕ → ℕ → Bool
+  mark_at n i q = cond (ltb q n && (leb k q || get_or t i false)) (is_some (match_at_lem m (get_or ps q []) i).bound) (get_or (get_or rows i []) q false)
 
-  not_yet : (n i q : ℕ) → n ≤ q → mark-at n i q ≡ get_or (get_or rows i []) q false
+  not_yet : (n i q : ℕ) → n ≤ q → mark_at n i q ≡ get_or (get_or rows i []) q false
   not_yet n i q h = cond-false (ltb q n && (leb k q || get_or t i false)) _ _ (and_left (ltb q n) (leb k q || get_or t i false) (le-ltb q n h))
 
-  done_at : (n i q : ℕ) → q < n → mark-at n i q ≡ cond (leb k q || get_or t i false) (is_some (match_at_lem m (get_or ps q []) i).bound) (get_or (get_or rows i []) q false)
+  done_at : (n i q : ℕ) → q < n → mark_at n i q ≡ cond (leb k q || get_or t i false) (is_some (match_at_lem m (get_or ps q []) i).bound) (get_or (get_or rows i []) q false)
   done_at n i q h = ap (λ b. cond (b && (leb k q || get_or t i false)) (is_some (match_at_lem m (get_or ps q []) i).bound) (get_or (get_or rows i []) q false)) (lt-ltb q n h)
 
-  pub row_at : (n i q : ℕ) → n ≤ 16 → i < length rows → q < 16 → get_or (get_or (all_rows m ps k t rows n) i []) q false ≡ mark-at n i q
+  pub row_at : (n i q : ℕ) → n ≤ 16 → i < length rows → q < 16 → get_or (get_or (all_rows m ps k t rows n) i []) q false ≡ mark_at n i q
   row_at zero i q l h r = sym (not_yet 0 i q (omega arith))
   row_at (suc n) i q l h r =
       let x = get_or (all_rows m ps k t rows n) i [] in
@@ -153,13 +153,13 @@ module _ (m : Forest) (ps : List (List Element)) (k : ℕ) (t : List Bool) (rows
       (λ (u : (leb k n || get_or t i false) ≡ true).
       ap (λ y. get_or y q false) (cond-true (leb k n || get_or t i false) (set (get_or (all_rows m ps k t rows n) i []) n (is_some (match_at_lem m (get_or ps n []) i).bound)) (get_or (all_rows m ps k t rows n) i []) u)
       ∙ ap (λ z. get_or (set (get_or (all_rows m ps k t rows n) i []) n (is_some (match_at_lem m (get_or ps n []) i).bound)) z false) e
-      ∙ get_or-set_same (get_or (all_rows m ps k t rows n) i []) n (is_some (match_at_lem m (get_or ps n []) i).bound) false (omega (arith, row-wide n i h))
-      ∙ sym (ap (mark-at (suc n) i) e ∙ done_at (suc n) i n (omega arith) ∙ cond-true (leb k n || get_or t i false) _ _ u))
+      ∙ get_or-set_same (get_or (all_rows m ps k t rows n) i []) n (is_some (match_at_lem m (get_or ps n []) i).bound) false (omega (arith, row_wide n i h))
+      ∙ sym (ap (mark_at (suc n) i) e ∙ done_at (suc n) i n (omega arith) ∙ cond-true (leb k n || get_or t i false) _ _ u))
       (λ (u : (leb k n || get_or t i false) ≡ false).
       ap (λ y. get_or y q false) (cond-false (leb k n || get_or t i false) (set (get_or (all_rows m ps k t rows n) i []) n (is_some (match_at_lem m (get_or ps n []) i).bound)) (get_or (all_rows m ps k t rows n) i []) u)
       ∙ row_at n i q (omega arith) h r
       ∙ not_yet n i q (omega arith)
-      ∙ sym (ap (mark-at (suc n) i) e ∙ done_at (suc n) i n (omega arith) ∙ cond-false (leb k n || get_or t i false) _ _ u ∙ ap (λ z. get_or (get_or rows i []) z false) (sym e)))
+      ∙ sym (ap (mark_at (suc n) i) e ∙ done_at (suc n) i n (omega arith) ∙ cond-false (leb k n || get_or t i false) _ _ u ∙ ap (λ z. get_or (get_or rows i []) z false) (sym e)))
       (cases_Bool (leb k n || get_or t i false)))
       (λ (ne : q ≡ n → ⊥).
       cond_both (leb k n || get_or t i false) (set (get_or (all_rows m ps k t rows n) i []) n (is_some (match_at_lem m (get_or ps n []) i).bound)) (get_or (all_rows m ps k t rows n) i []) (λ y. get_or y q false ≡ get_or (get_or (all_rows m ps k t rows n) i []) q false)
@@ -184,7 +184,7 @@ all_rebuilt m ps K wide same few =
     let G : ℕ → ℕ → Bool = λ i j. cond (tries (seen m ps K) i j) (is_some (match_at_lem m (get_or ps j []) i).bound) (get_or (get_or K.marks i []) j false) in
     ext_get_or [] _ _ (rows_long m ps K.tried (spread_out m K.touched) K.marks wide (length ps) ∙ sym (length_tabulate (λ i. tabulate (G i) 16) (length K.marks))) (λ i h.
     let l : i < length K.marks = omega (arith, rows_long m ps K.tried (spread_out m K.touched) K.marks wide (length ps)) in
-    let w = row-wide m ps K.tried (spread_out m K.touched) K.marks wide (length ps) i l in
+    let w = row_wide m ps K.tried (spread_out m K.touched) K.marks wide (length ps) i l in
     ext_get_or false (get_or F i []) (tabulate (G i) 16) (w ∙ sym (length_tabulate (G i) 16)) (λ q r.
     let c : q < 16 = omega arith in
     row_at m ps K.tried (spread_out m K.touched) K.marks wide (length ps) i q few l c

@@ -12,7 +12,7 @@ use Rattle.texts.specs.declared.pattern.names.Names.{Names}
 use Rattle.texts.specs.Tokens.{Shape, open_group, next_token, tokens_from}
 use Rattle.texts.specs.PatternText.{Draft, also, drafted, leaf_of, names_after, pattern_fault, pattern_scan}
 use Rattle.texts.specs.PatternSteps.{parts, names_in, LieIn, Fine, Put, scan_on, Moved, Went, Shut, Ended, Read}
-use Rattle.texts.proofs.Scanning.{length_fine, Leafy, too-deep, group-full, group-opens, leaf-wrong, leaf-full, leaf-read}
+use Rattle.texts.proofs.Scanning.{length_fine, Leafy, too_deep, group_full, group_opens, leaf_wrong, leaf_full, leaf_read}
 
 module _ (es : List Entry) (s : List ℕ) (d : ℕ) (r : Row) (x : Names) (i : ℕ) (fine : Fine r) (within : i ≤ length s) (j b : ℕ) (at : j ≡ (next_token s i).to) (start : b ≡ (next_token s i).start) where
   n : length (elements_of r) ≡ r.count
@@ -22,13 +22,13 @@ module _ (es : List Entry) (s : List ℕ) (d : ℕ) (r : Row) (x : Names) (i : �
   here c = ap (λ (k : ℕ). Err (pattern_fault c k)) (sym start)
 
   module _ (t : Shape) (token : t ≡ (next_token s i).what) (leafy : Leafy t) where
-    pub no-leaf : (c : Cause) → leaf_of es (names_in s x) t ≡ Err c → (gs : List ℕ) → length gs ≡ d → scan_on es s r x gs i ≡ Err (pattern_fault c b)
-    no-leaf c w gs l = leaf-wrong es s i (elements_of r) (names_in s x) gs t token leafy c w ∙ here c
+    pub no_leaf : (c : Cause) → leaf_of es (names_in s x) t ≡ Err c → (gs : List ℕ) → length gs ≡ d → scan_on es s r x gs i ≡ Err (pattern_fault c b)
+    no_leaf c w gs l = leaf_wrong es s i (elements_of r) (names_in s x) gs t token leafy c w ∙ here c
 
     pub leaf_put : {U : Type 0} (q : Row) (y : Names) (z : Element) (u : Result U Cause) → leaf_of es (names_in s x) t ≡ Ok z → names_in s y ≡ names_after (names_in s x) t → LieIn s y → Put r z q u → Went es s d r x i q y j b u
     leaf_put q y z (Ok u) w m l p = record {
       same = λ gs e.
-          leaf-read es s i (elements_of r) (names_in s x) gs t token leafy z within w (omega (arith, n, p.0))
+          leaf_read es s i (elements_of r) (names_in s x) gs t token leafy z within w (omega (arith, n, p.0))
           ∙ ap (λ xs. pattern_scan es (drafted xs gs (names_after (names_in s x) t)) (tokens_from s (next_token s i).to)) (sym p.1)
           ∙ ap (λ ns. pattern_scan es (drafted (elements_of q) gs ns) (tokens_from s (next_token s i).to)) (sym m)
           ∙ ap (λ (k : ℕ). scan_on es s q y gs k) (sym at);
@@ -36,18 +36,18 @@ module _ (es : List Entry) (s : List ℕ) (d : ℕ) (r : Row) (x : Names) (i : �
       fine = record { few = omega (arith, p.0, p.2); full = p.3 };
       lie = l;
     }
-    leaf_put q y z (Err c) w m l p = λ gs e. leaf-full es s i (elements_of r) (names_in s x) gs t token leafy z w (omega (arith, n, p.0)) ∙ here TooMany ∙ ap (λ k. Err (pattern_fault k b)) (sym p.1)
+    leaf_put q y z (Err c) w m l p = λ gs e. leaf_full es s i (elements_of r) (names_in s x) gs t token leafy z w (omega (arith, n, p.0)) ∙ here TooMany ∙ ap (λ k. Err (pattern_fault k b)) (sym p.1)
 
   module _ (token : open_group ≡ (next_token s i).what) where
     pub deep : 16 ≤ d → (gs : List ℕ) → length gs ≡ d → scan_on es s r x gs i ≡ Err (pattern_fault TooMany b)
-    deep h gs l = too-deep es s i (elements_of r) (names_in s x) gs token (omega arith) ∙ here TooMany
+    deep h gs l = too_deep es s i (elements_of r) (names_in s x) gs token (omega arith) ∙ here TooMany
 
     pub no_room : d < 16 → 64 ≤ r.count → (gs : List ℕ) → length gs ≡ d → scan_on es s r x gs i ≡ Err (pattern_fault TooMany b)
-    no_room h k gs l = group-full es s i (elements_of r) (names_in s x) gs token (omega arith) (omega (arith, n)) ∙ here TooMany
+    no_room h k gs l = group_full es s i (elements_of r) (names_in s x) gs token (omega arith) (omega (arith, n)) ∙ here TooMany
 
     pub opens : (p : Row) → d < 16 → r.count < 64 → elements_of p ≡ elements_of r ++ (Group 1 ∷ []) → (gs : List ℕ) → length gs ≡ d → scan_on es s r x gs i ≡ scan_on es s p x (r.count ∷ gs) j
     opens p h k e gs l =
-        group-opens es s i (elements_of r) (names_in s x) gs within token (omega arith) (omega (arith, n))
+        group_opens es s i (elements_of r) (names_in s x) gs within token (omega arith) (omega (arith, n))
         ∙ ap (λ xs. pattern_scan es (drafted xs (length (elements_of r) ∷ gs) (names_in s x)) (tokens_from s (next_token s i).to)) (sym e)
         ∙ ap (λ (m : ℕ). scan_on es s p x (m ∷ gs) (next_token s i).to) n
         ∙ ap (λ (m : ℕ). scan_on es s p x (r.count ∷ gs) m) (sym at)

@@ -29,41 +29,41 @@ module _ (s : List ℕ) (i : ℕ) (here : i < length s) where
   far : (w : Shape) (e : ℕ) → i < e → e ≤ length s → Fits s i (lexed w e)
   far w e p q = record { on = p; in_text = q }
 
-  quoted-fits : Fits s i (quoted_at s i)
-  quoted-fits =
+  quoted_fits : Fits s i (quoted_at s i)
+  quoted_fits =
       let w = run_within Quotes s (i + 1) (omega arith) in
       fits_cond (eqb (get_or s (run_end Quotes s (i + 1)) 0) 39 && (ltb (i + 1) (run_end Quotes s (i + 1)) && leb (run_end Quotes s (i + 1) - (i + 1)) 64)) (λ h. let e = inside (λ b. eqb b 39) s (run_end Quotes s (i + 1)) refl (and_parts _ _ h).0 in far _ (run_end Quotes s (i + 1) + 1) (omega arith) (omega arith)) (λ h. one _)
 
-  variable-fits : (k : Option (List ℕ)) (j : ℕ) → i < j → j ≤ length s → Fits s i (variable_at s k i j)
-  variable-fits k j l m = let w = run_within Names s j m in fits_cond (letter (get_or s j 0) && leb (run_end Names s j - j) 16) (λ h. far _ (run_end Names s j) (omega arith) w) (λ h. one _)
+  variable_fits : (k : Option (List ℕ)) (j : ℕ) → i < j → j ≤ length s → Fits s i (variable_at s k i j)
+  variable_fits k j l m = let w = run_within Names s j m in fits_cond (letter (get_or s j 0) && leb (run_end Names s j - j) 16) (λ h. far _ (run_end Names s j) (omega arith) w) (λ h. one _)
 
-  constructed-fits : i + 1 < length s → Fits s i (constructed_at s i)
-  constructed-fits l =
+  constructed_fits : i + 1 < length s → Fits s i (constructed_at s i)
+  constructed_fits l =
       let w = run_within Words s (i + 2) (omega arith) in
       fits_cond (eqb (get_or s (run_end Words s (i + 2)) 0) 62 && ltb (i + 2) (run_end Words s (i + 2)))
-      (λ h. let e = inside (λ b. eqb b 62) s (run_end Words s (i + 2)) refl (and_parts _ _ h).0 in variable-fits _ (run_end Words s (i + 2) + 1) (omega arith) (omega arith))
+      (λ h. let e = inside (λ b. eqb b 62) s (run_end Words s (i + 2)) refl (and_parts _ _ h).0 in variable_fits _ (run_end Words s (i + 2) + 1) (omega arith) (omega arith))
       (λ h. one _)
 
   two : i + 1 < length s → (w : Shape) → Fits s i (lexed w (i + 2))
   two l w = record { on = omega arith; in_text = omega arith }
 
-  percent-fits : Fits s i (percent_at s i)
-  percent-fits =
+  percent_fits : Fits s i (percent_at s i)
+  percent_fits =
       fits_cond (eqb (get_or s (i + 1) 0) 37) (λ h. two (inside (λ b. eqb b 37) s (i + 1) refl h) _)
       (λ _. fits_cond (eqb (get_or s (i + 1) 0) 40) (λ h. two (inside (λ b. eqb b 40) s (i + 1) refl h) _)
       (λ _. fits_cond (eqb (get_or s (i + 1) 0) 41) (λ h. two (inside (λ b. eqb b 41) s (i + 1) refl h) _)
-      (λ _. fits_cond (eqb (get_or s (i + 1) 0) 60) (λ h. constructed-fits (inside (λ b. eqb b 60) s (i + 1) refl h))
-      (λ _. fits_cond (letter (get_or s (i + 1) 0)) (λ h. variable-fits _ (i + 1) (omega arith) (omega arith)) (λ h. one _)))))
+      (λ _. fits_cond (eqb (get_or s (i + 1) 0) 60) (λ h. constructed_fits (inside (λ b. eqb b 60) s (i + 1) refl h))
+      (λ _. fits_cond (letter (get_or s (i + 1) 0)) (λ h. variable_fits _ (i + 1) (omega arith) (omega arith)) (λ h. one _)))))
 
   word_fits : wordy (get_or s i 0) ≡ true → (w : Shape) → Fits s i (lexed w (run_end Words s i))
   word_fits h w = let l = prefix_len-drop_yes wordy s i 0 here h in record { on = omega arith; in_text = run_within Words s i (omega arith) }
 
-  token-fits : Fits s i (token_at s i)
-  token-fits =
+  token_fits : Fits s i (token_at s i)
+  token_fits =
       fits_cond (ltb i (length s))
       (λ _. fits_cond (wordy (get_or s i 0)) (λ h. word_fits h _)
-      (λ _. fits_cond (eqb (get_or s i 0) 39) (λ h. quoted-fits)
-      (λ _. fits_cond (eqb (get_or s i 0) 37) (λ h. percent-fits)
+      (λ _. fits_cond (eqb (get_or s i 0) 39) (λ h. quoted_fits)
+      (λ _. fits_cond (eqb (get_or s i 0) 37) (λ h. percent_fits)
       (λ _. fits_cond (seen (get_or s i 0)) (λ h. one _) (λ h. one _)))))
       (λ h. absurd (omega (arith, ltb-false i (length s) h)))
 
@@ -82,7 +82,7 @@ unfolding next_token
 moves s i h =
     let w = run_within Blanks s i h in
     ⊎_elim
-    (λ l. let f = token-fits s (run_end Blanks s i) l in record { behind = omega arith; inner = f.in_text; forward = λ _. omega (arith, f.on); onward = omega (arith, f.on) })
+    (λ l. let f = token_fits s (run_end Blanks s i) l in record { behind = omega arith; inner = f.in_text; forward = λ _. omega (arith, f.on); onward = omega (arith, f.on) })
     (λ l.
     let stays : (token_at s (run_end Blanks s i)).to ≡ run_end Blanks s i = cond_both (ltb (run_end Blanks s i) (length s)) _ _ (λ (t : Lexed). t.to ≡ run_end Blanks s i) (λ x. absurd (omega (arith, ltb-true _ _ x))) (λ _. refl) in
     record { behind = omega arith; inner = omega (arith, stays); forward = λ e. absurd (end_token s (run_end Blanks s i) l e); onward = omega (arith, stays) })

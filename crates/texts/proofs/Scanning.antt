@@ -32,14 +32,14 @@ unfolding pattern_scan
 scan_none es d = refl
 
 module _ (es : List Entry) (s : List ℕ) (i : ℕ) (d : Draft) (x : Shape) (q : x ≡ (next_token s i).what) where
-  pub scan-wrong : (c : Cause) → with_token es d x ≡ Err c → pattern_scan es d (tokens_from s i) ≡ Err (pattern_fault c (next_token s i).start)
-  scan-wrong c w = ap (pattern_scan es d) (some_token s i) ∙ scan_next es d (next_token s i) (rest_of s i) ∙ ap (goes_on es (next_token s i) (rest_of s i)) (ap (with_token es d) (sym q) ∙ w)
+  pub scan_wrong : (c : Cause) → with_token es d x ≡ Err c → pattern_scan es d (tokens_from s i) ≡ Err (pattern_fault c (next_token s i).start)
+  scan_wrong c w = ap (pattern_scan es d) (some_token s i) ∙ scan_next es d (next_token s i) (rest_of s i) ∙ ap (goes_on es (next_token s i) (rest_of s i)) (ap (with_token es d) (sym q) ∙ w)
 
-  pub scan-token : i ≤ length s → is_end x ≡ false → (e : Draft) → with_token es d x ≡ Ok e → pattern_scan es d (tokens_from s i) ≡ pattern_scan es e (tokens_from s (next_token s i).to)
-  scan-token h n e w = ap (pattern_scan es d) (token_step s i h (ap is_end (sym q) ∙ n)) ∙ scan_next es d (next_token s i) (tokens_from s (next_token s i).to) ∙ ap (goes_on es (next_token s i) (tokens_from s (next_token s i).to)) (ap (with_token es d) (sym q) ∙ w)
+  pub scan_token : i ≤ length s → is_end x ≡ false → (e : Draft) → with_token es d x ≡ Ok e → pattern_scan es d (tokens_from s i) ≡ pattern_scan es e (tokens_from s (next_token s i).to)
+  scan_token h n e w = ap (pattern_scan es d) (token_step s i h (ap is_end (sym q) ∙ n)) ∙ scan_next es d (next_token s i) (tokens_from s (next_token s i).to) ∙ ap (goes_on es (next_token s i) (tokens_from s (next_token s i).to)) (ap (with_token es d) (sym q) ∙ w)
 
-  pub scan-end : is_end x ≡ true → (e : Draft) → with_token es d x ≡ Ok e → pattern_scan es d (tokens_from s i) ≡ Ok e
-  scan-end n e w = ap (pattern_scan es d) (end_step s i (ap is_end (sym q) ∙ n)) ∙ scan_next es d (next_token s i) [] ∙ ap (goes_on es (next_token s i) []) (ap (with_token es d) (sym q) ∙ w) ∙ scan_none es e
+  pub scan_end : is_end x ≡ true → (e : Draft) → with_token es d x ≡ Ok e → pattern_scan es d (tokens_from s i) ≡ Ok e
+  scan_end n e w = ap (pattern_scan es d) (end_step s i (ap is_end (sym q) ∙ n)) ∙ scan_next es d (next_token s i) [] ∙ ap (goes_on es (next_token s i) []) (ap (with_token es d) (sym q) ∙ w) ∙ scan_none es e
 
 -- a token that ends a level and does not close a group ends the text, and the other way round
 pub stop_not_close : (t : Token) → stops (shape t) ≡ true → (t ≡ GroupClose → ⊥) → shape t ≡ end
@@ -82,22 +82,22 @@ leafy End h n = absurd (true≢false h)
 
 module _ (es : List Entry) (s : List ℕ) (i : ℕ) (xs : List Element) (ns : List (List ℕ)) where
   pub shuts : (g : ℕ) (gs : List ℕ) → i ≤ length s → close_group ≡ (next_token s i).what → suc g < length xs → pattern_scan es (drafted xs (g ∷ gs) ns) (tokens_from s i) ≡ pattern_scan es (drafted (set xs g (Group (length xs - g))) gs ns) (tokens_from s (next_token s i).to)
-  shuts g gs h q l = scan-token es s i (drafted xs (g ∷ gs) ns) close_group q h refl _ (cond-true _ _ _ (lt-ltb (suc g) (length xs) l))
+  shuts g gs h q l = scan_token es s i (drafted xs (g ∷ gs) ns) close_group q h refl _ (cond-true _ _ _ (lt-ltb (suc g) (length xs) l))
 
-  pub shuts-nothing : (g : ℕ) (gs : List ℕ) → close_group ≡ (next_token s i).what → length xs ≤ suc g → pattern_scan es (drafted xs (g ∷ gs) ns) (tokens_from s i) ≡ Err (pattern_fault Unpaired (next_token s i).start)
-  shuts-nothing g gs q l = scan-wrong es s i (drafted xs (g ∷ gs) ns) close_group q Unpaired (cond-false _ _ _ (le-ltb (suc g) (length xs) l))
+  pub shuts_nothing : (g : ℕ) (gs : List ℕ) → close_group ≡ (next_token s i).what → length xs ≤ suc g → pattern_scan es (drafted xs (g ∷ gs) ns) (tokens_from s i) ≡ Err (pattern_fault Unpaired (next_token s i).start)
+  shuts_nothing g gs q l = scan_wrong es s i (drafted xs (g ∷ gs) ns) close_group q Unpaired (cond-false _ _ _ (le-ltb (suc g) (length xs) l))
 
-  pub never-shut : (g : ℕ) (gs : List ℕ) → end ≡ (next_token s i).what → pattern_scan es (drafted xs (g ∷ gs) ns) (tokens_from s i) ≡ Err (pattern_fault Unpaired (next_token s i).start)
-  never-shut g gs q = scan-wrong es s i (drafted xs (g ∷ gs) ns) end q Unpaired refl
+  pub never_shut : (g : ℕ) (gs : List ℕ) → end ≡ (next_token s i).what → pattern_scan es (drafted xs (g ∷ gs) ns) (tokens_from s i) ≡ Err (pattern_fault Unpaired (next_token s i).start)
+  never_shut g gs q = scan_wrong es s i (drafted xs (g ∷ gs) ns) end q Unpaired refl
 
   pub ends : end ≡ (next_token s i).what → 0 < length xs → pattern_scan es (drafted xs [] ns) (tokens_from s i) ≡ Ok (drafted xs [] ns)
-  ends q l = scan-end es s i (drafted xs [] ns) end q refl _ (cond-true _ _ _ (lt-ltb 0 (length xs) l))
+  ends q l = scan_end es s i (drafted xs [] ns) end q refl _ (cond-true _ _ _ (lt-ltb 0 (length xs) l))
 
-  pub ends-empty : end ≡ (next_token s i).what → length xs ≤ 0 → pattern_scan es (drafted xs [] ns) (tokens_from s i) ≡ Err (pattern_fault Unpaired (next_token s i).start)
-  ends-empty q l = scan-wrong es s i (drafted xs [] ns) end q Unpaired (cond-false _ _ _ (le-ltb 0 (length xs) l))
+  pub ends_empty : end ≡ (next_token s i).what → length xs ≤ 0 → pattern_scan es (drafted xs [] ns) (tokens_from s i) ≡ Err (pattern_fault Unpaired (next_token s i).start)
+  ends_empty q l = scan_wrong es s i (drafted xs [] ns) end q Unpaired (cond-false _ _ _ (le-ltb 0 (length xs) l))
 
-  pub never-open : close_group ≡ (next_token s i).what → pattern_scan es (drafted xs [] ns) (tokens_from s i) ≡ Err (pattern_fault Unpaired (next_token s i).start)
-  never-open q = scan-wrong es s i (drafted xs [] ns) close_group q Unpaired refl
+  pub never_open : close_group ≡ (next_token s i).what → pattern_scan es (drafted xs [] ns) (tokens_from s i) ≡ Err (pattern_fault Unpaired (next_token s i).start)
+  never_open q = scan_wrong es s i (drafted xs [] ns) close_group q Unpaired refl
 
   too_many : (x : Element) → 64 ≤ length xs → one_more xs x ≡ Err TooMany
   too_many x l = cond-true _ _ _ (lt-ltb 63 (length xs) (omega arith))
@@ -105,24 +105,24 @@ module _ (es : List Entry) (s : List ℕ) (i : ℕ) (xs : List Element) (ns : Li
   has_room : (x : Element) → length xs < 64 → one_more xs x ≡ Ok (xs ++ (x ∷ []))
   has_room x l = cond-false _ _ _ (le-ltb 63 (length xs) (omega arith))
 
-  pub too-deep : (gs : List ℕ) → open_group ≡ (next_token s i).what → 16 ≤ length gs → pattern_scan es (drafted xs gs ns) (tokens_from s i) ≡ Err (pattern_fault TooMany (next_token s i).start)
-  too-deep gs q l = scan-wrong es s i (drafted xs gs ns) open_group q TooMany (cond-true _ _ _ (lt-ltb 15 (length gs) (omega arith)))
+  pub too_deep : (gs : List ℕ) → open_group ≡ (next_token s i).what → 16 ≤ length gs → pattern_scan es (drafted xs gs ns) (tokens_from s i) ≡ Err (pattern_fault TooMany (next_token s i).start)
+  too_deep gs q l = scan_wrong es s i (drafted xs gs ns) open_group q TooMany (cond-true _ _ _ (lt-ltb 15 (length gs) (omega arith)))
 
-  pub group-full : (gs : List ℕ) → open_group ≡ (next_token s i).what → length gs < 16 → 64 ≤ length xs → pattern_scan es (drafted xs gs ns) (tokens_from s i) ≡ Err (pattern_fault TooMany (next_token s i).start)
-  group-full gs q l h = scan-wrong es s i (drafted xs gs ns) open_group q TooMany (cond-false _ _ _ (le-ltb 15 (length gs) (omega arith)) ∙ ap (λ r. also r (λ ys. Ok (drafted ys (length xs ∷ gs) ns))) (too_many (Group 1) h))
+  pub group_full : (gs : List ℕ) → open_group ≡ (next_token s i).what → length gs < 16 → 64 ≤ length xs → pattern_scan es (drafted xs gs ns) (tokens_from s i) ≡ Err (pattern_fault TooMany (next_token s i).start)
+  group_full gs q l h = scan_wrong es s i (drafted xs gs ns) open_group q TooMany (cond-false _ _ _ (le-ltb 15 (length gs) (omega arith)) ∙ ap (λ r. also r (λ ys. Ok (drafted ys (length xs ∷ gs) ns))) (too_many (Group 1) h))
 
-  pub group-opens : (gs : List ℕ) → i ≤ length s → open_group ≡ (next_token s i).what → length gs < 16 → length xs < 64 → pattern_scan es (drafted xs gs ns) (tokens_from s i) ≡ pattern_scan es (drafted (xs ++ (Group 1 ∷ [])) (length xs ∷ gs) ns) (tokens_from s (next_token s i).to)
-  group-opens gs w q l h = scan-token es s i (drafted xs gs ns) open_group q w refl _ (cond-false _ _ _ (le-ltb 15 (length gs) (omega arith)) ∙ ap (λ r. also r (λ ys. Ok (drafted ys (length xs ∷ gs) ns))) (has_room (Group 1) h))
+  pub group_opens : (gs : List ℕ) → i ≤ length s → open_group ≡ (next_token s i).what → length gs < 16 → length xs < 64 → pattern_scan es (drafted xs gs ns) (tokens_from s i) ≡ pattern_scan es (drafted (xs ++ (Group 1 ∷ [])) (length xs ∷ gs) ns) (tokens_from s (next_token s i).to)
+  group_opens gs w q l h = scan_token es s i (drafted xs gs ns) open_group q w refl _ (cond-false _ _ _ (le-ltb 15 (length gs) (omega arith)) ∙ ap (λ r. also r (λ ys. Ok (drafted ys (length xs ∷ gs) ns))) (has_room (Group 1) h))
 
   module _ (gs : List ℕ) (x : Shape) (q : x ≡ (next_token s i).what) (leaf : Leafy x) where
-    pub leaf-wrong : (c : Cause) → leaf_of es ns x ≡ Err c → pattern_scan es (drafted xs gs ns) (tokens_from s i) ≡ Err (pattern_fault c (next_token s i).start)
-    leaf-wrong c w = scan-wrong es s i (drafted xs gs ns) x q c (leaf.same es (drafted xs gs ns) ∙ ap (λ r. also r (λ y. also (one_more xs y) (λ ys. Ok (drafted ys gs (names_after ns x))))) w)
+    pub leaf_wrong : (c : Cause) → leaf_of es ns x ≡ Err c → pattern_scan es (drafted xs gs ns) (tokens_from s i) ≡ Err (pattern_fault c (next_token s i).start)
+    leaf_wrong c w = scan_wrong es s i (drafted xs gs ns) x q c (leaf.same es (drafted xs gs ns) ∙ ap (λ r. also r (λ y. also (one_more xs y) (λ ys. Ok (drafted ys gs (names_after ns x))))) w)
 
-    pub leaf-full : (y : Element) → leaf_of es ns x ≡ Ok y → 64 ≤ length xs → pattern_scan es (drafted xs gs ns) (tokens_from s i) ≡ Err (pattern_fault TooMany (next_token s i).start)
-    leaf-full y w h = scan-wrong es s i (drafted xs gs ns) x q TooMany (leaf.same es (drafted xs gs ns) ∙ ap (λ r. also r (λ z. also (one_more xs z) (λ ys. Ok (drafted ys gs (names_after ns x))))) w ∙ ap (λ r. also r (λ ys. Ok (drafted ys gs (names_after ns x)))) (too_many y h))
+    pub leaf_full : (y : Element) → leaf_of es ns x ≡ Ok y → 64 ≤ length xs → pattern_scan es (drafted xs gs ns) (tokens_from s i) ≡ Err (pattern_fault TooMany (next_token s i).start)
+    leaf_full y w h = scan_wrong es s i (drafted xs gs ns) x q TooMany (leaf.same es (drafted xs gs ns) ∙ ap (λ r. also r (λ z. also (one_more xs z) (λ ys. Ok (drafted ys gs (names_after ns x))))) w ∙ ap (λ r. also r (λ ys. Ok (drafted ys gs (names_after ns x)))) (too_many y h))
 
-    pub leaf-read : (y : Element) → i ≤ length s → leaf_of es ns x ≡ Ok y → length xs < 64 → pattern_scan es (drafted xs gs ns) (tokens_from s i) ≡ pattern_scan es (drafted (xs ++ (y ∷ [])) gs (names_after ns x)) (tokens_from s (next_token s i).to)
-    leaf-read y v w h = scan-token es s i (drafted xs gs ns) x q v leaf.goes _ (leaf.same es (drafted xs gs ns) ∙ ap (λ r. also r (λ z. also (one_more xs z) (λ ys. Ok (drafted ys gs (names_after ns x))))) w ∙ ap (λ r. also r (λ ys. Ok (drafted ys gs (names_after ns x)))) (has_room y h))
+    pub leaf_read : (y : Element) → i ≤ length s → leaf_of es ns x ≡ Ok y → length xs < 64 → pattern_scan es (drafted xs gs ns) (tokens_from s i) ≡ pattern_scan es (drafted (xs ++ (y ∷ [])) gs (names_after ns x)) (tokens_from s (next_token s i).to)
+    leaf_read y v w h = scan_token es s i (drafted xs gs ns) x q v leaf.goes _ (leaf.same es (drafted xs gs ns) ∙ ap (λ r. also r (λ z. also (one_more xs z) (λ ys. Ok (drafted ys gs (names_after ns x))))) w ∙ ap (λ r. also r (λ ys. Ok (drafted ys gs (names_after ns x)))) (has_room y h))
 
 names_next : (ns : List (List ℕ)) (t : Spot) (ts : List Spot) → names_among ns (t ∷ ts) ≡ names_among (names_after ns t.what) ts
 unfolding names_among

@@ -23,8 +23,8 @@ pub begins : (es : List Entry) (s : List ℕ) (i : ℕ) → i ≡ 0 → Reads es
 begins es s i z = (refl, ap (λ (k : ℕ). tree_scan es 0 false [] (tokens_from s k)) (sym z))
 
 module _ (es : List Entry) (s t : List ℕ) (same : t ≡ s) (n : Nest) (i : ℕ) (m : Nest) (j : ℕ) (rs : List Record) (before : Reads es s n i rs) where
-  pub node-on : (r : Record) → Stepped es t n i m j (Ok (Node r)) → Reads es s m j (rs ++ (r ∷ []))
-  node-on r h =
+  pub node_on : (r : Record) → Stepped es t n i m j (Ok (Node r)) → Reads es s m j (rs ++ (r ∷ []))
+  node_on r h =
       let st = subst (λ x. Stepped es x n i m j (Ok (Node r))) same h in
       (length_push rs r ∙ ap (λ (k : ℕ). k + 1) before.0 ∙ sym st.1, before.1 ∙ st.0 rs before.0)
 
@@ -38,14 +38,14 @@ module _ (es : List Entry) (s t : List ℕ) (same : t ≡ s) (n : Nest) (i : ℕ
       let st = subst (λ x. Stepped es x n i m j (Ok Done)) same h in
       (before.1 ∙ st.0 rs before.0, st.1 ∙ sym before.0)
 
-  pub err-on : (f : Refusal) → Stepped es t n i m j (Err f) → tree_scan es 0 false [] (tokens s) ≡ Err f
-  err-on f h =
+  pub err_on : (f : Refusal) → Stepped es t n i m j (Err f) → tree_scan es 0 false [] (tokens s) ≡ Err f
+  err_on f h =
       let st = subst (λ x. Stepped es x n i m j (Err f)) same h in
       before.1 ∙ st rs before.0
 
 -- a step that is not the last leads on
 pub goes_on : (es : List Entry) (s t : List ℕ) → t ≡ s → (n : Nest) (i : ℕ) (m : Nest) (j : ℕ) (x : Step) → (x ≡ Done → ⊥) → Stepped es t n i m j (Ok x) → Reached es s n i → Reached es s m j × (i < j)
-goes_on es s t same n i m j (Node r) other h b = ((b.0 ++ (r ∷ []), node-on es s t same n i m j b.0 b.1 r h), h.2)
+goes_on es s t same n i m j (Node r) other h b = ((b.0 ++ (r ∷ []), node_on es s t same n i m j b.0 b.1 r h), h.2)
 goes_on es s t same n i m j Closed other h b = ((b.0, closed_on es s t same n i m j b.0 b.1 h), h.2)
 goes_on es s t same n i m j Done other h b = absurd (other refl)
 

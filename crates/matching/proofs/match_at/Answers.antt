@@ -10,7 +10,7 @@ use Rattle.matching.specs.Rules.{tick, walks}
 use Rattle.matching.specs.Answers.{ended, match_answer}
 use Rattle.matching.proofs.Winning.{none_some, blank}
 use Rattle.matching.proofs.Wholes.{level_formed}
-use Rattle.matching.proofs.Answering.{size_there, label_there, size_refused, label_refused, match_ended, laws-hold}
+use Rattle.matching.proofs.Answering.{size_there, label_there, size_refused, label_refused, match_ended, laws_hold}
 use Rattle.matching.proofs.match_at.Goals as goal
 
 pub overflow_add-place : goal.overflow_add-place
@@ -28,23 +28,23 @@ returns-then-match_level g c =
     let (h, k) = size_there (g.T.Meant.meaning c.args.tree.now) c.args.place c.in_ok-size.size c.in_ok-size.ensures in
     let i : ended true c.match_level.new.found ≡ tick 0 (walks (g.T.Meant.meaning c.args.tree.now) (elements_of c.args.pattern.now.row) c.args.place (c.args.place + c.in_ok-size.size) (replicate 16 None)) = c.if-match_level.ensures.answer ∙ ap (λ (es : List Element). tick 0 (walks (g.T.Meant.meaning c.args.tree.now) es c.args.place (c.args.place + c.in_ok-size.size) (replicate 16 None))) c.elements.ensures.value in
     let e = sym (match_ended (g.T.Meant.meaning c.args.tree.now) (g.T.Meant.lawful c.args.tree.now) (elements_of c.args.pattern.now.row) c.args.place c.in_ok-size.size h k true c.match_level.new.found i) in
-    record { answer = e; laws = laws-hold (g.T.Meant.meaning c.args.tree.now) (g.T.Meant.lawful c.args.tree.now) (elements_of c.args.pattern.now.row) (kept c.args.pattern.now).formed c.args.place _ e }
+    record { answer = e; laws = laws_hold (g.T.Meant.meaning c.args.tree.now) (g.T.Meant.lawful c.args.tree.now) (elements_of c.args.pattern.now.row) (kept c.args.pattern.now).formed c.args.place _ e }
 
 pub returns-else-match_level : goal.returns-else-match_level
 returns-else-match_level g c =
     let (h, k) = size_there (g.T.Meant.meaning c.args.tree.now) c.args.place c.in_ok-size.size c.in_ok-size.ensures in
     let i : ended false c.match_level.new.found ≡ tick 0 (walks (g.T.Meant.meaning c.args.tree.now) (elements_of c.args.pattern.now.row) c.args.place (c.args.place + c.in_ok-size.size) (replicate 16 None)) = c.if-match_level.ensures.answer ∙ ap (λ (es : List Element). tick 0 (walks (g.T.Meant.meaning c.args.tree.now) es c.args.place (c.args.place + c.in_ok-size.size) (replicate 16 None))) c.elements.ensures.value in
     let e : Err c.no_match.result ≡ match_answer (g.T.Meant.meaning c.args.tree.now) (elements_of c.args.pattern.now.row) c.args.place = ap (λ (x : Refusal). Err x) c.no_match.ensures ∙ sym (match_ended (g.T.Meant.meaning c.args.tree.now) (g.T.Meant.lawful c.args.tree.now) (elements_of c.args.pattern.now.row) c.args.place c.in_ok-size.size h k false c.match_level.new.found i) in
-    record { answer = e; laws = laws-hold (g.T.Meant.meaning c.args.tree.now) (g.T.Meant.lawful c.args.tree.now) (elements_of c.args.pattern.now.row) (kept c.args.pattern.now).formed c.args.place _ e }
+    record { answer = e; laws = laws_hold (g.T.Meant.meaning c.args.tree.now) (g.T.Meant.lawful c.args.tree.now) (elements_of c.args.pattern.now.row) (kept c.args.pattern.now).formed c.args.place _ e }
 
 pub returns-in_err-label : goal.returns-in_err-label
 returns-in_err-label g c =
     let p = err_from_is_err_and c.from_residual.result c.from_residual.ensures.1 in
     let e : c.from_residual.result ≡ match_answer (g.T.Meant.meaning c.args.tree.now) (elements_of c.args.pattern.now.row) c.args.place = p.1 ∙ ap (λ (x : Refusal). Err x) p.2 ∙ label_refused (g.T.Meant.meaning c.args.tree.now) (elements_of c.args.pattern.now.row) c.args.place c.in_err-label.field-0.0 c.in_err-label.ensures in
-    record { answer = e; laws = laws-hold (g.T.Meant.meaning c.args.tree.now) (g.T.Meant.lawful c.args.tree.now) (elements_of c.args.pattern.now.row) (kept c.args.pattern.now).formed c.args.place _ e }
+    record { answer = e; laws = laws_hold (g.T.Meant.meaning c.args.tree.now) (g.T.Meant.lawful c.args.tree.now) (elements_of c.args.pattern.now.row) (kept c.args.pattern.now).formed c.args.place _ e }
 
 pub returns-in_err-size : goal.returns-in_err-size
 returns-in_err-size g c =
     let p = err_from_is_err_and c.from_residual-in_err-size.result c.from_residual-in_err-size.ensures.1 in
     let e : c.from_residual-in_err-size.result ≡ match_answer (g.T.Meant.meaning c.args.tree.now) (elements_of c.args.pattern.now.row) c.args.place = p.1 ∙ ap (λ (x : Refusal). Err x) p.2 ∙ size_refused (g.T.Meant.meaning c.args.tree.now) (elements_of c.args.pattern.now.row) c.args.place c.in_err-size.field-0.0 c.in_err-size.ensures in
-    record { answer = e; laws = laws-hold (g.T.Meant.meaning c.args.tree.now) (g.T.Meant.lawful c.args.tree.now) (elements_of c.args.pattern.now.row) (kept c.args.pattern.now).formed c.args.place _ e }
+    record { answer = e; laws = laws_hold (g.T.Meant.meaning c.args.tree.now) (g.T.Meant.lawful c.args.tree.now) (elements_of c.args.pattern.now.row) (kept c.args.pattern.now).formed c.args.place _ e }

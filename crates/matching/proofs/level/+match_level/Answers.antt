@@ -9,7 +9,7 @@ use Rattle.matching.specs.declared.rule.Rule.TheVariants.{Done, Stuck, BothGo, B
 use Rattle.matching.specs.Rules.{Outcome}
 use Rattle.matching.specs.Levels.{Level}
 use Rattle.matching.proofs.Wholes.{group_inside, level_group, variable_small}
-use Rattle.matching.proofs.Walking.{Reached, chosen_suited, case_chosen, was-done, was-stuck, both-went, was-opened, bound-lexeme, bound-inner, bound-last, differs-lexeme, differs-inner, differs-last, entered, not_entered, at_end, rest_all}
+use Rattle.matching.proofs.Walking.{Reached, chosen_suited, case_chosen, was_done, was_stuck, both_went, was_opened, bound_lexeme, bound_inner, bound_last, differs_lexeme, differs_inner, differs_last, entered, not_entered, at_end, rest_all}
 use Rattle.matching.proofs.level.+match_level.Goals as goal
 
 -- a level reached with the elements behind the first k, as a part of a slice is written
@@ -18,19 +18,19 @@ behind {m} {n} {o} {most} {p} {e} {a} k es r = subst (λ (fs : List Element). Re
 
 pub returns-in-Done : goal.returns-in-Done
 returns-in-Done g t c =
-    record { answer = was-done (g.T.Meant.meaning c.args.tree.now) (sound _ (g.T.Meant.lawful c.args.tree.now)) _ _ _ _ _ _ _ c.loop-at.invariant.2 c.loop-at-test.true _ _ c.known_or_asked-node.ensures.label c.known_or_asked-node.ensures.size (case_chosen (g.T.Meant.meaning c.args.tree.now) c.loop-at.rest.now c.loop-at.at c.args.end c.known_or_asked-node.result.label c.known_or_asked-node.result.size c.choose_rule-choice.result.rule Done c.in-Done.is c.choose_rule-choice.ensures.rule); inside = c.loop-at.invariant.2.inside; brief = omega (arith, c.loop-at.invariant.2.brief) }
+    record { answer = was_done (g.T.Meant.meaning c.args.tree.now) (sound _ (g.T.Meant.lawful c.args.tree.now)) _ _ _ _ _ _ _ c.loop-at.invariant.2 c.loop-at-test.true _ _ c.known_or_asked-node.ensures.label c.known_or_asked-node.ensures.size (case_chosen (g.T.Meant.meaning c.args.tree.now) c.loop-at.rest.now c.loop-at.at c.args.end c.known_or_asked-node.result.label c.known_or_asked-node.result.size c.choose_rule-choice.result.rule Done c.in-Done.is c.choose_rule-choice.ensures.rule); inside = c.loop-at.invariant.2.inside; brief = omega (arith, c.loop-at.invariant.2.brief) }
 
 pub returns-in-Stuck : goal.returns-in-Stuck
 returns-in-Stuck g t c =
-    record { answer = was-stuck (g.T.Meant.meaning c.args.tree.now) (sound _ (g.T.Meant.lawful c.args.tree.now)) _ _ _ _ _ _ _ c.loop-at.invariant.2 c.loop-at-test.true _ _ c.known_or_asked-node.ensures.label c.known_or_asked-node.ensures.size (case_chosen (g.T.Meant.meaning c.args.tree.now) c.loop-at.rest.now c.loop-at.at c.args.end c.known_or_asked-node.result.label c.known_or_asked-node.result.size c.choose_rule-choice.result.rule Stuck c.in-Stuck.is c.choose_rule-choice.ensures.rule); inside = c.loop-at.invariant.2.inside; brief = omega (arith, c.loop-at.invariant.2.brief) }
+    record { answer = was_stuck (g.T.Meant.meaning c.args.tree.now) (sound _ (g.T.Meant.lawful c.args.tree.now)) _ _ _ _ _ _ _ c.loop-at.invariant.2 c.loop-at-test.true _ _ c.known_or_asked-node.ensures.label c.known_or_asked-node.ensures.size (case_chosen (g.T.Meant.meaning c.args.tree.now) c.loop-at.rest.now c.loop-at.at c.args.end c.known_or_asked-node.result.label c.known_or_asked-node.result.size c.choose_rule-choice.result.rule Stuck c.in-Stuck.is c.choose_rule-choice.ensures.rule); inside = c.loop-at.invariant.2.inside; brief = omega (arith, c.loop-at.invariant.2.brief) }
 
 pub loop-at-preserved-in-BothGo : goal.loop-at-preserved-in-BothGo
 loop-at-preserved-in-BothGo g t c =
-    (omega (arith, c.loop-at.invariant.0), tt, behind 1 c.loop-at.rest.now (both-went (g.T.Meant.meaning c.args.tree.now) (sound _ (g.T.Meant.lawful c.args.tree.now)) _ _ _ _ _ _ _ c.loop-at.invariant.2 c.loop-at-test.true _ _ c.known_or_asked-node.ensures.label c.known_or_asked-node.ensures.size (chosen_suited (g.T.Meant.meaning c.args.tree.now) _ _ _ _ _ _ (case_chosen (g.T.Meant.meaning c.args.tree.now) c.loop-at.rest.now c.loop-at.at c.args.end c.known_or_asked-node.result.label c.known_or_asked-node.result.size c.choose_rule-choice.result.rule BothGo c.in-BothGo.is c.choose_rule-choice.ensures.rule)) (case_chosen (g.T.Meant.meaning c.args.tree.now) c.loop-at.rest.now c.loop-at.at c.args.end c.known_or_asked-node.result.label c.known_or_asked-node.result.size c.choose_rule-choice.result.rule BothGo c.in-BothGo.is c.choose_rule-choice.ensures.rule)))
+    (omega (arith, c.loop-at.invariant.0), tt, behind 1 c.loop-at.rest.now (both_went (g.T.Meant.meaning c.args.tree.now) (sound _ (g.T.Meant.lawful c.args.tree.now)) _ _ _ _ _ _ _ c.loop-at.invariant.2 c.loop-at-test.true _ _ c.known_or_asked-node.ensures.label c.known_or_asked-node.ensures.size (chosen_suited (g.T.Meant.meaning c.args.tree.now) _ _ _ _ _ _ (case_chosen (g.T.Meant.meaning c.args.tree.now) c.loop-at.rest.now c.loop-at.at c.args.end c.known_or_asked-node.result.label c.known_or_asked-node.result.size c.choose_rule-choice.result.rule BothGo c.in-BothGo.is c.choose_rule-choice.ensures.rule)) (case_chosen (g.T.Meant.meaning c.args.tree.now) c.loop-at.rest.now c.loop-at.at c.args.end c.known_or_asked-node.result.label c.known_or_asked-node.result.size c.choose_rule-choice.result.rule BothGo c.in-BothGo.is c.choose_rule-choice.ensures.rule)))
 
 pub loop-at-preserved : goal.loop-at-preserved
 loop-at-preserved g t c =
-    (omega (arith, c.loop-at.invariant.0), tt, was-opened (g.T.Meant.meaning c.args.tree.now) (sound _ (g.T.Meant.lawful c.args.tree.now)) _ _ _ _ _ _ _ c.loop-at.invariant.2 c.loop-at-test.true _ _ c.known_or_asked-node.ensures.label c.known_or_asked-node.ensures.size (case_chosen (g.T.Meant.meaning c.args.tree.now) c.loop-at.rest.now c.loop-at.at c.args.end c.known_or_asked-node.result.label c.known_or_asked-node.result.size c.choose_rule-choice.result.rule Open c.in-Open.is c.choose_rule-choice.ensures.rule))
+    (omega (arith, c.loop-at.invariant.0), tt, was_opened (g.T.Meant.meaning c.args.tree.now) (sound _ (g.T.Meant.lawful c.args.tree.now)) _ _ _ _ _ _ _ c.loop-at.invariant.2 c.loop-at-test.true _ _ c.known_or_asked-node.ensures.label c.known_or_asked-node.ensures.size (case_chosen (g.T.Meant.meaning c.args.tree.now) c.loop-at.rest.now c.loop-at.at c.args.end c.known_or_asked-node.result.label c.known_or_asked-node.result.size c.choose_rule-choice.result.rule Open c.in-Open.is c.choose_rule-choice.ensures.rule))
 
 pub bind_variable-agrees-requires : goal.bind_variable-agrees-requires
 bind_variable-agrees-requires g t c =
@@ -51,7 +51,7 @@ pub returns-then-not-agrees : goal.returns-then-not-agrees
 returns-then-not-agrees g t c =
     let r = c.loop-at.invariant.2 in
     record {
-      answer = differs-lexeme (g.T.Meant.meaning c.args.tree.now) (sound _ (g.T.Meant.lawful c.args.tree.now)) _ _ _ _ _ _ _ c.loop-at.invariant.2 c.loop-at-test.true _ _ c.known_or_asked-node.ensures.label c.known_or_asked-node.ensures.size c.variable_of.result c.variable_of.ensures c.bind_variable-agrees.new.found (case_chosen (g.T.Meant.meaning c.args.tree.now) c.loop-at.rest.now c.loop-at.at c.args.end c.known_or_asked-node.result.label c.known_or_asked-node.result.size c.choose_rule-choice.result.rule BindBeforeLexeme c.in-BindBeforeLexeme.is c.choose_rule-choice.ensures.rule) c.if-not-agrees.ensures.answer;
+      answer = differs_lexeme (g.T.Meant.meaning c.args.tree.now) (sound _ (g.T.Meant.lawful c.args.tree.now)) _ _ _ _ _ _ _ c.loop-at.invariant.2 c.loop-at-test.true _ _ c.known_or_asked-node.ensures.label c.known_or_asked-node.ensures.size c.variable_of.result c.variable_of.ensures c.bind_variable-agrees.new.found (case_chosen (g.T.Meant.meaning c.args.tree.now) c.loop-at.rest.now c.loop-at.at c.args.end c.known_or_asked-node.result.label c.known_or_asked-node.result.size c.choose_rule-choice.result.rule BindBeforeLexeme c.in-BindBeforeLexeme.is c.choose_rule-choice.ensures.rule) c.if-not-agrees.ensures.answer;
       inside = c.if-not-agrees.ensures.inside;
       brief = omega (arith, c.if-not-agrees.ensures.brief, r.brief, r.fit.ends c.loop-at.at (omega arith) c.loop-at-test.true, c.known_or_asked-node.ensures.size, (sound _ (g.T.Meant.lawful c.args.tree.now)).sizes c.loop-at.at (omega (arith, r.fit.within, c.loop-at-test.true)));
     }
@@ -60,18 +60,18 @@ pub returns-then-not-same : goal.returns-then-not-same
 returns-then-not-same g t c =
     let r = c.loop-at.invariant.2 in
     record {
-      answer = ⊎_elim (λ i. differs-inner (g.T.Meant.meaning c.args.tree.now) (sound _ (g.T.Meant.lawful c.args.tree.now)) _ _ _ _ _ _ _ c.loop-at.invariant.2 c.loop-at-test.true _ _ c.known_or_asked-node.ensures.label c.known_or_asked-node.ensures.size c.variable_of-in-BindBeforeInner.result c.variable_of-in-BindBeforeInner.ensures c.bind_variable-same.new.found (case_chosen (g.T.Meant.meaning c.args.tree.now) c.loop-at.rest.now c.loop-at.at c.args.end c.known_or_asked-node.result.label c.known_or_asked-node.result.size c.choose_rule-choice.result.rule BindBeforeInner i c.choose_rule-choice.ensures.rule) c.if-not-same.ensures.answer) (λ i. differs-last (g.T.Meant.meaning c.args.tree.now) (sound _ (g.T.Meant.lawful c.args.tree.now)) _ _ _ _ _ _ _ c.loop-at.invariant.2 c.loop-at-test.true _ _ c.known_or_asked-node.ensures.label c.known_or_asked-node.ensures.size c.variable_of-in-BindBeforeInner.result c.variable_of-in-BindBeforeInner.ensures c.bind_variable-same.new.found (case_chosen (g.T.Meant.meaning c.args.tree.now) c.loop-at.rest.now c.loop-at.at c.args.end c.known_or_asked-node.result.label c.known_or_asked-node.result.size c.choose_rule-choice.result.rule BindLast i c.choose_rule-choice.ensures.rule) c.if-not-same.ensures.answer) c.in-BindBeforeInner.is;
+      answer = ⊎_elim (λ i. differs_inner (g.T.Meant.meaning c.args.tree.now) (sound _ (g.T.Meant.lawful c.args.tree.now)) _ _ _ _ _ _ _ c.loop-at.invariant.2 c.loop-at-test.true _ _ c.known_or_asked-node.ensures.label c.known_or_asked-node.ensures.size c.variable_of-in-BindBeforeInner.result c.variable_of-in-BindBeforeInner.ensures c.bind_variable-same.new.found (case_chosen (g.T.Meant.meaning c.args.tree.now) c.loop-at.rest.now c.loop-at.at c.args.end c.known_or_asked-node.result.label c.known_or_asked-node.result.size c.choose_rule-choice.result.rule BindBeforeInner i c.choose_rule-choice.ensures.rule) c.if-not-same.ensures.answer) (λ i. differs_last (g.T.Meant.meaning c.args.tree.now) (sound _ (g.T.Meant.lawful c.args.tree.now)) _ _ _ _ _ _ _ c.loop-at.invariant.2 c.loop-at-test.true _ _ c.known_or_asked-node.ensures.label c.known_or_asked-node.ensures.size c.variable_of-in-BindBeforeInner.result c.variable_of-in-BindBeforeInner.ensures c.bind_variable-same.new.found (case_chosen (g.T.Meant.meaning c.args.tree.now) c.loop-at.rest.now c.loop-at.at c.args.end c.known_or_asked-node.result.label c.known_or_asked-node.result.size c.choose_rule-choice.result.rule BindLast i c.choose_rule-choice.ensures.rule) c.if-not-same.ensures.answer) c.in-BindBeforeInner.is;
       inside = c.if-not-same.ensures.inside;
       brief = omega (arith, c.if-not-same.ensures.brief, r.brief, r.fit.ends c.loop-at.at (omega arith) c.loop-at-test.true, c.known_or_asked-node.ensures.size, (sound _ (g.T.Meant.lawful c.args.tree.now)).sizes c.loop-at.at (omega (arith, r.fit.within, c.loop-at-test.true)));
     }
 
 pub loop-at-preserved-in-BindBeforeLexeme : goal.loop-at-preserved-in-BindBeforeLexeme
 loop-at-preserved-in-BindBeforeLexeme g t c =
-    (omega (arith, c.loop-at.invariant.0), tt, behind 2 c.loop-at.rest.now (bound-lexeme (g.T.Meant.meaning c.args.tree.now) (sound _ (g.T.Meant.lawful c.args.tree.now)) _ _ _ _ _ _ _ c.loop-at.invariant.2 c.loop-at-test.true _ _ c.known_or_asked-node.ensures.label c.known_or_asked-node.ensures.size c.variable_of.result c.variable_of.ensures c.bind_variable-agrees.new.found c.if-not-agrees.ensures.inside c.if-not-agrees.ensures.brief (chosen_suited (g.T.Meant.meaning c.args.tree.now) _ _ _ _ _ _ (case_chosen (g.T.Meant.meaning c.args.tree.now) c.loop-at.rest.now c.loop-at.at c.args.end c.known_or_asked-node.result.label c.known_or_asked-node.result.size c.choose_rule-choice.result.rule BindBeforeLexeme c.in-BindBeforeLexeme.is c.choose_rule-choice.ensures.rule)) (case_chosen (g.T.Meant.meaning c.args.tree.now) c.loop-at.rest.now c.loop-at.at c.args.end c.known_or_asked-node.result.label c.known_or_asked-node.result.size c.choose_rule-choice.result.rule BindBeforeLexeme c.in-BindBeforeLexeme.is c.choose_rule-choice.ensures.rule) c.if-not-agrees.ensures.answer))
+    (omega (arith, c.loop-at.invariant.0), tt, behind 2 c.loop-at.rest.now (bound_lexeme (g.T.Meant.meaning c.args.tree.now) (sound _ (g.T.Meant.lawful c.args.tree.now)) _ _ _ _ _ _ _ c.loop-at.invariant.2 c.loop-at-test.true _ _ c.known_or_asked-node.ensures.label c.known_or_asked-node.ensures.size c.variable_of.result c.variable_of.ensures c.bind_variable-agrees.new.found c.if-not-agrees.ensures.inside c.if-not-agrees.ensures.brief (chosen_suited (g.T.Meant.meaning c.args.tree.now) _ _ _ _ _ _ (case_chosen (g.T.Meant.meaning c.args.tree.now) c.loop-at.rest.now c.loop-at.at c.args.end c.known_or_asked-node.result.label c.known_or_asked-node.result.size c.choose_rule-choice.result.rule BindBeforeLexeme c.in-BindBeforeLexeme.is c.choose_rule-choice.ensures.rule)) (case_chosen (g.T.Meant.meaning c.args.tree.now) c.loop-at.rest.now c.loop-at.at c.args.end c.known_or_asked-node.result.label c.known_or_asked-node.result.size c.choose_rule-choice.result.rule BindBeforeLexeme c.in-BindBeforeLexeme.is c.choose_rule-choice.ensures.rule) c.if-not-agrees.ensures.answer))
 
 pub loop-at-preserved-in-BindBeforeInner : goal.loop-at-preserved-in-BindBeforeInner
 loop-at-preserved-in-BindBeforeInner g t c =
-    (omega (arith, c.loop-at.invariant.0), c.choose_rule-choice.ensures.known, behind 1 c.loop-at.rest.now (⊎_elim (λ i. bound-inner (g.T.Meant.meaning c.args.tree.now) (sound _ (g.T.Meant.lawful c.args.tree.now)) _ _ _ _ _ _ _ c.loop-at.invariant.2 c.loop-at-test.true _ _ c.known_or_asked-node.ensures.label c.known_or_asked-node.ensures.size c.variable_of-in-BindBeforeInner.result c.variable_of-in-BindBeforeInner.ensures c.bind_variable-same.new.found c.if-not-same.ensures.inside c.if-not-same.ensures.brief (chosen_suited (g.T.Meant.meaning c.args.tree.now) _ _ _ _ _ _ (case_chosen (g.T.Meant.meaning c.args.tree.now) c.loop-at.rest.now c.loop-at.at c.args.end c.known_or_asked-node.result.label c.known_or_asked-node.result.size c.choose_rule-choice.result.rule BindBeforeInner i c.choose_rule-choice.ensures.rule)) (case_chosen (g.T.Meant.meaning c.args.tree.now) c.loop-at.rest.now c.loop-at.at c.args.end c.known_or_asked-node.result.label c.known_or_asked-node.result.size c.choose_rule-choice.result.rule BindBeforeInner i c.choose_rule-choice.ensures.rule) c.if-not-same.ensures.answer) (λ i. bound-last (g.T.Meant.meaning c.args.tree.now) (sound _ (g.T.Meant.lawful c.args.tree.now)) _ _ _ _ _ _ _ c.loop-at.invariant.2 c.loop-at-test.true _ _ c.known_or_asked-node.ensures.label c.known_or_asked-node.ensures.size c.variable_of-in-BindBeforeInner.result c.variable_of-in-BindBeforeInner.ensures c.bind_variable-same.new.found c.if-not-same.ensures.inside c.if-not-same.ensures.brief (chosen_suited (g.T.Meant.meaning c.args.tree.now) _ _ _ _ _ _ (case_chosen (g.T.Meant.meaning c.args.tree.now) c.loop-at.rest.now c.loop-at.at c.args.end c.known_or_asked-node.result.label c.known_or_asked-node.result.size c.choose_rule-choice.result.rule BindLast i c.choose_rule-choice.ensures.rule)) (case_chosen (g.T.Meant.meaning c.args.tree.now) c.loop-at.rest.now c.loop-at.at c.args.end c.known_or_asked-node.result.label c.known_or_asked-node.result.size c.choose_rule-choice.result.rule BindLast i c.choose_rule-choice.ensures.rule) c.if-not-same.ensures.answer) c.in-BindBeforeInner.is))
+    (omega (arith, c.loop-at.invariant.0), c.choose_rule-choice.ensures.known, behind 1 c.loop-at.rest.now (⊎_elim (λ i. bound_inner (g.T.Meant.meaning c.args.tree.now) (sound _ (g.T.Meant.lawful c.args.tree.now)) _ _ _ _ _ _ _ c.loop-at.invariant.2 c.loop-at-test.true _ _ c.known_or_asked-node.ensures.label c.known_or_asked-node.ensures.size c.variable_of-in-BindBeforeInner.result c.variable_of-in-BindBeforeInner.ensures c.bind_variable-same.new.found c.if-not-same.ensures.inside c.if-not-same.ensures.brief (chosen_suited (g.T.Meant.meaning c.args.tree.now) _ _ _ _ _ _ (case_chosen (g.T.Meant.meaning c.args.tree.now) c.loop-at.rest.now c.loop-at.at c.args.end c.known_or_asked-node.result.label c.known_or_asked-node.result.size c.choose_rule-choice.result.rule BindBeforeInner i c.choose_rule-choice.ensures.rule)) (case_chosen (g.T.Meant.meaning c.args.tree.now) c.loop-at.rest.now c.loop-at.at c.args.end c.known_or_asked-node.result.label c.known_or_asked-node.result.size c.choose_rule-choice.result.rule BindBeforeInner i c.choose_rule-choice.ensures.rule) c.if-not-same.ensures.answer) (λ i. bound_last (g.T.Meant.meaning c.args.tree.now) (sound _ (g.T.Meant.lawful c.args.tree.now)) _ _ _ _ _ _ _ c.loop-at.invariant.2 c.loop-at-test.true _ _ c.known_or_asked-node.ensures.label c.known_or_asked-node.ensures.size c.variable_of-in-BindBeforeInner.result c.variable_of-in-BindBeforeInner.ensures c.bind_variable-same.new.found c.if-not-same.ensures.inside c.if-not-same.ensures.brief (chosen_suited (g.T.Meant.meaning c.args.tree.now) _ _ _ _ _ _ (case_chosen (g.T.Meant.meaning c.args.tree.now) c.loop-at.rest.now c.loop-at.at c.args.end c.known_or_asked-node.result.label c.known_or_asked-node.result.size c.choose_rule-choice.result.rule BindLast i c.choose_rule-choice.ensures.rule)) (case_chosen (g.T.Meant.meaning c.args.tree.now) c.loop-at.rest.now c.loop-at.at c.args.end c.known_or_asked-node.result.label c.known_or_asked-node.result.size c.choose_rule-choice.result.rule BindLast i c.choose_rule-choice.ensures.rule) c.if-not-same.ensures.answer) c.in-BindBeforeInner.is))
 
 pub slice_bounds-match_level-count : goal.slice_bounds-match_level-count
 slice_bounds-match_level-count g t c =

@@ -6,7 +6,7 @@ use Rattle.labels.specs.Entries.{entries}
 use Rattle.texts.specs.Tokens.{shape, word, quoted, sign, end, next_token, is_end, tokens_from}
 use Rattle.texts.specs.TreeText.{is_open, node_answer, sign_fault_lem, end_fault_lem, tree_fault, tree_scan}
 use Rattle.texts.proofs.Lexing.{moves}
-use Rattle.texts.proofs.TreeSteps.{quoted-node, quoted-refused, word-node, word-refused, word-alone, sign-step, sign-wrong, spelt-wrong, open-wrong, close-wrong, fault-wrong, end-done, end-wrong}
+use Rattle.texts.proofs.TreeSteps.{quoted_node, quoted_refused, word_node, word_refused, word_alone, sign_step, sign_wrong, spelt_wrong, open_wrong, close_wrong, fault_wrong, end_done, end_wrong}
 use Rattle.texts.proofs.step.step.Goals as goal
 
 pub returns-then-not-opens : goal.returns-then-not-opens
@@ -18,7 +18,7 @@ returns-then-not-opens c =
     let o : is_open (next_token s (next_token s i).to).what ≡ false = cc in
     record {
       same = search rules;
-      stepped = λ rs l. let a = word-alone (entries c.args.book.now.bytes.now) s i n.depth n.empty rs c.args.reader.now.within c.in-Word.word.now q o in cc;
+      stepped = λ rs l. let a = word_alone (entries c.args.book.now.bytes.now) s i n.depth n.empty rs c.args.reader.now.within c.in-Word.word.now q o in cc;
     }
 
 pub returns-in_ok-record-in-Word : goal.returns-in_ok-record-in-Word
@@ -41,7 +41,7 @@ returns-in_ok-record-in-Word c =
         λ rs l.
             let r = c.in_ok-record-in-Word.record in
             let a = ap (λ (k : ℕ). node_answer es n.depth k w (next_token s i).start) l ∙ ap (node_answer es n.depth n.count w) (sym st) ∙ sym c.node.ensures ∙ c.in_ok-record-in-Word.was in
-            word-node es s i n.depth n.empty rs c.args.reader.now.within w r q o a
+            word_node es s i n.depth n.empty rs c.args.reader.now.within w r q o a
             ∙ ap (λ (k : ℕ). tree_scan es (n.depth + 1) true (rs ++ (r ∷ [])) (tokens_from s k)) (sym j),
         refl,
         omega (arith, m2.onward),
@@ -63,7 +63,7 @@ returns-in_err-record-in-Word c =
       same = search rules;
       stepped = λ rs l.
           let a = ap (λ (k : ℕ). node_answer es n.depth k w (next_token s i).start) l ∙ ap (node_answer es n.depth n.count w) (sym st) ∙ sym c.node.ensures ∙ c.in_err-record-in-Word.was in
-          word-refused es s i n.depth n.empty rs c.args.reader.now.within w _ q o a;
+          word_refused es s i n.depth n.empty rs c.args.reader.now.within w _ q o a;
     })
 
 pub returns-in_err-record-in-Quoted : goal.returns-in_err-record-in-Quoted
@@ -80,7 +80,7 @@ returns-in_err-record-in-Quoted c =
       same = search rules;
       stepped = λ rs l.
           let a = ap (λ (k : ℕ). node_answer es n.depth k w (next_token s i).start) l ∙ ap (node_answer es n.depth n.count w) (sym st) ∙ sym c.node-in-Quoted.ensures ∙ c.in_err-record-in-Quoted.was in
-          quoted-refused es s i n.depth n.empty rs c.args.reader.now.within w _ q a;
+          quoted_refused es s i n.depth n.empty rs c.args.reader.now.within w _ q a;
     })
 
 pub returns-in-Some : goal.returns-in-Some
@@ -92,7 +92,7 @@ returns-in-Some c =
     let k : sign_fault_lem c.in-Sign.byte n.depth n.empty ≡ Some c.in-Some.cause = sym c.in-Some.ensures.value in
     record {
       same = search rules;
-      stepped = λ rs l. let b = sign-wrong (entries c.args.book.now.bytes.now) s i n.depth n.empty rs c.args.reader.now.within c.in-Sign.byte c.in-Some.cause q k in cc;
+      stepped = λ rs l. let b = sign_wrong (entries c.args.book.now.bytes.now) s i n.depth n.empty rs c.args.reader.now.within c.in-Sign.byte c.in-Some.cause q k in cc;
     }
 
 pub returns-in_ok-record-in-Quoted : goal.returns-in_ok-record-in-Quoted
@@ -112,7 +112,7 @@ returns-in_ok-record-in-Quoted c =
         λ rs l.
             let r = c.in_ok-record-in-Quoted.record in
             let a = ap (λ (k : ℕ). node_answer es n.depth k w (next_token s i).start) l ∙ ap (node_answer es n.depth n.count w) (sym st) ∙ sym c.node-in-Quoted.ensures ∙ c.in_ok-record-in-Quoted.was in
-            quoted-node es s i n.depth n.empty rs c.args.reader.now.within w r q a
+            quoted_node es s i n.depth n.empty rs c.args.reader.now.within w r q a
             ∙ ap (λ (k : ℕ). tree_scan es n.depth false (rs ++ (r ∷ [])) (tokens_from s k)) (sym c.next-token.ensures.moved),
         refl,
         omega (arith, c.next-token.ensures.moved),
@@ -133,7 +133,7 @@ returns-in_default c =
       same = search rules;
       stepped = (
         λ rs l.
-            sign-step es s i n.depth n.empty rs c.args.reader.now.within c.in-Sign.byte q k
+            sign_step es s i n.depth n.empty rs c.args.reader.now.within c.in-Sign.byte q k
             ∙ ap (λ (k : ℕ). tree_scan es (n.depth - 1) false rs (tokens_from s k)) (sym c.next-token.ensures.moved),
         refl,
         omega (arith, c.next-token.ensures.moved),
@@ -150,7 +150,7 @@ returns-in-Some-end_fault c =
       same = search rules;
       stepped = λ rs l.
           let a : end_fault_lem n.depth (length rs) ≡ Some c.in-Some-end_fault.cause = ap (end_fault_lem n.depth) l ∙ sym c.in-Some-end_fault.ensures in
-          let b = end-wrong (entries c.args.book.now.bytes.now) s i n.depth n.empty rs c.args.reader.now.within c.in-Some-end_fault.cause q a in
+          let b = end_wrong (entries c.args.book.now.bytes.now) s i n.depth n.empty rs c.args.reader.now.within c.in-Some-end_fault.cause q a in
           cc;
     }
 
@@ -162,7 +162,7 @@ returns-in-None c =
     let q = c.in-End.ensures.token in
     record {
       same = search rules;
-      stepped = (λ rs l. end-done (entries c.args.book.now.bytes.now) s i n.depth n.empty rs c.args.reader.now.within q (ap (end_fault_lem n.depth) l ∙ sym c.in-None.ensures), refl);
+      stepped = (λ rs l. end_done (entries c.args.book.now.bytes.now) s i n.depth n.empty rs c.args.reader.now.within q (ap (end_fault_lem n.depth) l ∙ sym c.in-None.ensures), refl);
     }
 
 pub returns-in-Variable : goal.returns-in-Variable
@@ -176,8 +176,8 @@ returns-in-Variable c =
     record {
       same = search rules;
       stepped = λ rs l.
-          ⊎_elim (λ h. spelt-wrong es s i n.depth n.empty rs c.args.reader.now.within h.0 h.1 (ap shape (sym h.2) ∙ q) ∙ sym st)
-          (⊎_elim (λ h. open-wrong es s i n.depth n.empty rs c.args.reader.now.within (ap shape (sym h) ∙ q) ∙ sym st)
-          (⊎_elim (λ h. close-wrong es s i n.depth n.empty rs c.args.reader.now.within (ap shape (sym h) ∙ q) ∙ sym st)
-          (λ h. fault-wrong es s i n.depth n.empty rs c.args.reader.now.within (ap shape (sym h) ∙ q) ∙ sym st))) c.in-Variable.is;
+          ⊎_elim (λ h. spelt_wrong es s i n.depth n.empty rs c.args.reader.now.within h.0 h.1 (ap shape (sym h.2) ∙ q) ∙ sym st)
+          (⊎_elim (λ h. open_wrong es s i n.depth n.empty rs c.args.reader.now.within (ap shape (sym h) ∙ q) ∙ sym st)
+          (⊎_elim (λ h. close_wrong es s i n.depth n.empty rs c.args.reader.now.within (ap shape (sym h) ∙ q) ∙ sym st)
+          (λ h. fault_wrong es s i n.depth n.empty rs c.args.reader.now.within (ap shape (sym h) ∙ q) ∙ sym st))) c.in-Variable.is;
     }

@@ -3,7 +3,7 @@ use Rattle.std.proofs.Common.{◌≡◌, ◌<◌, ◌≤◌, [], length, Ok, sym
 use Rattle.std.proofs.lemmas.Result.{err_from_is_err_and}
 use Rattle.labels.specs.Entries.{entries}
 use Rattle.texts.specs.Steps.{Stepped}
-use Rattle.texts.proofs.TreeLoops.{Reached, begins, goes_on, done_on, err-on}
+use Rattle.texts.proofs.TreeLoops.{Reached, begins, goes_on, done_on, err_on}
 use Rattle.texts.proofs.tree.count_nodes.Goals as goal
 
 pub loop-found-init : goal.loop-found-init
@@ -34,4 +34,4 @@ pub returns-in_err-found : goal.returns-in_err-found
 returns-in_err-found c =
     let h = c.loop-found.invariant.1 in
     let p = err_from_is_err_and c.from_residual.result c.from_residual.ensures.1 in
-    rw (p.1, p.2) (err-on (entries c.args.book.now.bytes.now) c.args.text.now c.loop-found.reader.text.now c.loop-found.invariant.0 c.loop-found.nest c.loop-found.reader.at c.step.new.nest c.step.new.reader.at h.0 h.1 c.in_err-found.field-0.0 c.in_err-found.ensures.stepped)
+    rw (p.1, p.2) (err_on (entries c.args.book.now.bytes.now) c.args.text.now c.loop-found.reader.text.now c.loop-found.invariant.0 c.loop-found.nest c.loop-found.reader.at c.step.new.nest c.step.new.reader.at h.0 h.1 c.in_err-found.field-0.0 c.in_err-found.ensures.stepped)

@@ -6,7 +6,7 @@ use Rattle.texts.specs.declared.nest.Step.{Step}
 use Rattle.texts.specs.declared.nest.Step.TheVariants.{Node, Closed, Done}
 use Rattle.texts.specs.Steps.{Stepped}
 use Rattle.texts.proofs.Winning.{same_ok, ok_is_not_err}
-use Rattle.texts.proofs.TreeLoops.{Reads, begins, node-on, closed_on, done_on, err-on, has_slot, write_on}
+use Rattle.texts.proofs.TreeLoops.{Reads, begins, node_on, closed_on, done_on, err_on, has_slot, write_on}
 use Rattle.texts.proofs.tree.write_nodes.Goals as goal
 
 pub loop-found-init : goal.loop-found-init
@@ -20,7 +20,7 @@ at_closed : (c : goal.In-Closed) → Stepped (entries c.args.book.now.bytes.now)
 at_closed c = subst (λ y. Stepped (entries c.args.book.now.bytes.now) c.loop-found.reader.text.now c.loop-found.nest c.loop-found.reader.at c.step.new.nest c.step.new.reader.at (Ok y)) c.in-Closed.is c.in-Ok.ensures.stepped
 
 on : (c : goal.In-Node) → Reads (entries c.args.book.now.bytes.now) c.args.text.now c.step.new.nest c.step.new.reader.at (take c.loop-found.count c.loop-found.records ++ (c.in-Node.record ∷ []))
-on c = node-on (entries c.args.book.now.bytes.now) c.args.text.now c.loop-found.reader.text.now c.loop-found.invariant.0 c.loop-found.nest c.loop-found.reader.at c.step.new.nest c.step.new.reader.at (take c.loop-found.count c.loop-found.records) c.loop-found.invariant.1.read c.in-Node.record (at_node c)
+on c = node_on (entries c.args.book.now.bytes.now) c.args.text.now c.loop-found.reader.text.now c.loop-found.invariant.0 c.loop-found.nest c.loop-found.reader.at c.step.new.nest c.step.new.reader.at (take c.loop-found.count c.loop-found.records) c.loop-found.invariant.1.read c.in-Node.record (at_node c)
 
 slot : (c : goal.In-Node) → c.loop-found.count < length c.loop-found.records
 slot c =
@@ -67,5 +67,5 @@ returns-in-Done c rs h =
 
 pub returns-in-Err : goal.returns-in-Err
 returns-in-Err c rs h =
-    let e = err-on (entries c.args.book.now.bytes.now) c.args.text.now c.loop-found.reader.text.now c.loop-found.invariant.0 c.loop-found.nest c.loop-found.reader.at c.step.new.nest c.step.new.reader.at (take c.loop-found.count c.loop-found.records) c.loop-found.invariant.1.read c.in-Err.field-0 c.in-Err.ensures.stepped in
+    let e = err_on (entries c.args.book.now.bytes.now) c.args.text.now c.loop-found.reader.text.now c.loop-found.invariant.0 c.loop-found.nest c.loop-found.reader.at c.step.new.nest c.step.new.reader.at (take c.loop-found.count c.loop-found.records) c.loop-found.invariant.1.read c.in-Err.field-0 c.in-Err.ensures.stepped in
     absurd (ok_is_not_err (sym e ∙ h))

@@ -2,7 +2,7 @@
 use Rattle.std.proofs.Common.{◌≡◌, ◌+◌, ◌-◌, ◌<◌, length, set, vec_items, vec_len, sum_by, refl, ap, ◌∙◌, arith, rules}
 use Rattle.std.proofs.lemmas.List.Sums.{sum_by-set, get_or-le-sum_by}
 use Rattle.sessions.specs.Held.{held, all_labels}
-use Rattle.sessions.proofs.Tables.{of, total_held, held-noted, labels_push}
+use Rattle.sessions.proofs.Tables.{of, total_held, held_noted, labels_push}
 use Rattle.sessions.proofs.journal.Journal.note.Goals as goal
 
 pub overflow_add-click : goal.overflow_add-click
@@ -38,6 +38,6 @@ returns c =
     let one : length (vec_items j.clicks) ≡ c.len-last.result - 1 + 1 = omega (arith, j.begun c.requires.during, j.clicks.ok.0) in
     record {
       held = ap (held (set (vec_items j.clicks) (c.len-last.result - 1) (record { changes = c.index_mut-click.result.now.changes + 1 }))) c.push_reserved.ensures.items
-          ∙ held-noted (vec_items j.clicks) (c.len-last.result - 1) c.index_mut-click.result.now one _ (vec_items j.changes) c.args.replaced (ap (λ k. of k + 1) c.index_mut-click.ensures.value);
+          ∙ held_noted (vec_items j.clicks) (c.len-last.result - 1) c.index_mut-click.result.now one _ (vec_items j.changes) c.args.replaced (ap (λ k. of k + 1) c.index_mut-click.ensures.value);
       opened = refl;
     }

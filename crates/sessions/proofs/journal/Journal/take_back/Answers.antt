@@ -8,7 +8,7 @@ use Rattle.std.specs.Option.{option_to_list}
 use Rattle.sessions.specs.declared.entry.Click.{Click}
 use Rattle.sessions.specs.declared.entry.Replaced.{Replaced}
 use Rattle.sessions.specs.Held.{held, change_of, all_labels}
-use Rattle.sessions.proofs.Tables.{of, length_held, held-empty, held-taken, labels_split}
+use Rattle.sessions.proofs.Tables.{of, length_held, held_empty, held_taken, labels_split}
 use Rattle.sessions.proofs.journal.Journal.take_back.Goals as goal
 
 cases_some : {A : Type 0} {Q : Type 0} (P : Type 0) (o : Option A) → is_some o ≡ true → Q → MatchOption o P (λ _. Q)
@@ -21,7 +21,7 @@ length_some (Some x) t = refl
 
 taken : (ks : List Click) (n : ℕ) (d : Click) → length ks ≡ n + 1 → (y : Click) → (get_or ks n d).changes ≡ y.changes + 1 → (rs qs : List Replaced) (o : Option Replaced) → is_some o ≡ true → rs ≡ qs ++ option_to_list o → all_labels rs ≡ true → MatchOption o (get_or (held ks rs) 0 [] ≡ []) (λ r. (held ks rs ≡ (change_of r ∷ get_or (held (set ks n y) qs) 0 []) ∷ drop 1 (held (set ks n y) qs)) × (r.label < 32768))
 taken ks n d e y h rs qs None t i l = absurd (both_ways false refl t)
-taken ks n d e y h rs qs (Some r) t i l = (ap (held ks) i ∙ held-taken ks n d e y qs r h, (labels_split qs r (sym (ap all_labels i) ∙ l)).1)
+taken ks n d e y h rs qs (Some r) t i l = (ap (held ks) i ∙ held_taken ks n d e y qs r h, (labels_split qs r (sym (ap all_labels i) ∙ l)).1)
 
 labels_left : (rs qs : List Replaced) (o : Option Replaced) → is_some o ≡ true → rs ≡ qs ++ option_to_list o → all_labels rs ≡ true → all_labels qs ≡ true
 labels_left rs qs None t i l = absurd (both_ways false refl t)
@@ -52,7 +52,7 @@ returns-then-index-eq0 c =
     let long = length_held (vec_items j.clicks) (vec_items j.changes) in
     let one : length (vec_items j.clicks) ≡ c.len-last.result - 1 + 1 = omega (arith, j.clicks.ok.0, c.requires) in
     record {
-      held = held-empty (vec_items j.clicks) (c.len-last.result - 1) c.index.result.now one (vec_items j.changes) (sym (ap of c.index.ensures) ∙ c.if-index-eq0.true);
+      held = held_empty (vec_items j.clicks) (c.len-last.result - 1) c.index.result.now one (vec_items j.changes) (sym (ap of c.index.ensures) ∙ c.if-index-eq0.true);
       same = refl;
       some = c.requires;
     }

@@ -8,7 +8,7 @@ use Rattle.trees.specs.Forest.{Forest}
 use Rattle.matching.specs.Rules.{match_at_lem}
 use Rattle.runs.specs.Session.{tabulate, total}
 use Rattle.sessions.specs.Tries.{tried_row, tried_steps}
-use Rattle.sessions.proofs.Tried.{written-more, kept_more, read_here, written_all, total_more}
+use Rattle.sessions.proofs.Tried.{written_more, kept_more, read_here, written_all, total_more}
 use Rattle.sessions.proofs.marks.tries.try_pattern.Goals as goal
 use Rattle.sessions.proofs.marks.tries.try_pattern.Goals.{then-is_tried, else-is_tried}
 
@@ -43,7 +43,7 @@ loop-place-preserved g c =
                 ∙ ap (λ (y : List (List Bool)). set y p (set (get_or y p []) n hit)) c.loop-place.invariant.1
                 ∙ ap (λ (r : List Bool). set (tabulate f p ++ drop p rows) p (set r n hit)) (read_here f rows p [] h)
                 ∙ ap (λ (r : List Bool). set (tabulate f p ++ drop p rows) p r) (sym (cond-true (new || get_or t p false) (set (get_or rows p []) n hit) (get_or rows p []) yes))
-                ∙ written-more f rows p [] h,
+                ∙ written_more f rows p [] h,
             w.steps-is ∙ (λ i. c.loop-place.invariant.2 i + (w.try_at-steps.ensures.steps ∙ sym (cond-true (new || get_or t p false) (match_at_lem m es p).steps 0 yes)) i) ∙ sym (total_more F p),
             omega (arith, w.steps-is, c.loop-place.invariant.3, w.try_at-steps.ensures.few),
           )

@@ -8,7 +8,7 @@ use Rattle.texts.specs.PatternSteps.{names_in, stops, scan_on, LieIn, EndsAt, Mo
 use Rattle.texts.proofs.Lexing.{moves}
 use Rattle.texts.proofs.Naming.{name_ends}
 use Rattle.texts.proofs.Scanning.{leafy}
-use Rattle.texts.proofs.Grouping.{no-leaf, leaf_put, deep, no_room, opens, grouped}
+use Rattle.texts.proofs.Grouping.{no_leaf, leaf_put, deep, no_room, opens, grouped}
 use Rattle.texts.proofs.pattern.levels.+element_level.Goals as goal
 
 pub element-returns-then-depth-ge-MOST_GROUPS : goal.element-returns-then-depth-ge-MOST_GROUPS
@@ -117,7 +117,7 @@ element-returns-in_err-element t c =
     rw (p.1, p.2) (record {
       same = c.next-token.ensures.same;
       forward = omega (arith, c.next-token.ensures.moved);
-      went = no-leaf es s c.args.depth c.args.row.now c.args.names.now i c.requires.fine c.args.reader.now.within _ _ c.next-token.ensures.moved c.next-token.ensures.start (shape c.next-token.result) q leaf _ wrong;
+      went = no_leaf es s c.args.depth c.args.row.now c.args.names.now i c.requires.fine c.args.reader.now.within _ _ c.next-token.ensures.moved c.next-token.ensures.start (shape c.next-token.result) q leaf _ wrong;
     })
 
 pub element-returns : goal.element-returns

@@ -8,7 +8,7 @@ use Rattle.texts.specs.Tokens.{tokens_from}
 use Rattle.texts.specs.PatternText.{drafted, pattern_fault, pattern_scan}
 use Rattle.texts.specs.PatternSteps.{stops, names_in}
 use Rattle.texts.proofs.Lexing.{moves}
-use Rattle.texts.proofs.Scanning.{length_fine, stop_not_close, shuts, shuts-nothing, never-shut}
+use Rattle.texts.proofs.Scanning.{length_fine, stop_not_close, shuts, shuts_nothing, never_shut}
 use Rattle.texts.proofs.pattern.levels.close.Goals as goal
 
 pub returns-in_default : goal.returns-in_default
@@ -21,7 +21,7 @@ returns-in_default c =
     record {
       same = search rules;
       forward = omega (arith, m.onward, c.next.ensures.moved);
-      shut = λ es x gs. never-shut es s i (elements_of c.args.row.now) (names_in s x) c.args.group gs q ∙ ap (λ (b : ℕ). Err (pattern_fault Unpaired b)) (sym c.next.ensures.start);
+      shut = λ es x gs. never_shut es s i (elements_of c.args.row.now) (names_in s x) c.args.group gs q ∙ ap (λ (b : ℕ). Err (pattern_fault Unpaired b)) (sym c.next.ensures.start);
     }
 
 pub returns-then-size-eq1 : goal.returns-then-size-eq1
@@ -34,7 +34,7 @@ returns-then-size-eq1 c =
     record {
       same = search rules;
       forward = omega (arith, m.onward, c.next.ensures.moved);
-      shut = λ es x gs. shuts-nothing es s i (elements_of c.args.row.now) (names_in s x) c.args.group gs q (omega (arith, n)) ∙ ap (λ (b : ℕ). Err (pattern_fault Unpaired b)) (sym c.next.ensures.start);
+      shut = λ es x gs. shuts_nothing es s i (elements_of c.args.row.now) (names_in s x) c.args.group gs q (omega (arith, n)) ∙ ap (λ (b : ℕ). Err (pattern_fault Unpaired b)) (sym c.next.ensures.start);
     }
 
 pub returns : goal.returns
