@@ -1,5 +1,5 @@
 -- The bytes that are read are exactly the books, and the first fault is found.
-use Rattle.std.proofs.Common.{◌≡◌, ℕ, zero, suc, ◌+◌, ◌-◌, ◌*◌, ◌<◌, ◌≤◌, Bool, true, false, List, [], ◌∷◌, ◌++◌, length, get_or, take, drop, is_some, is_ok, Some, None, Ok, Err, Option, Result, sym, refl, ap, ◌∙◌, subst, ⊎_elim, add-suc, zero-add, arith, length-append, length-drop, length-take}
+use Rattle.std.proofs.Common.{◌≡◌, ℕ, zero, suc, ◌+◌, ◌-◌, ◌*◌, ◌<◌, ◌≤◌, false, List, [], ◌∷◌, ◌++◌, length, get_or, take, drop, is_some, is_ok, Some, None, Ok, Err, Option, Result, sym, refl, ap, ◌∙◌, subst, ⊎_elim, zero-add, arith, length-append, length-drop}
 use Rattle.std.proofs.lemmas.List.{append_assoc, append-nil, take-append-drop, get_or_append_left, get_or-take, drop-take, take_at, drop_at, drop-append-le, length-take-le, nil_from_length}
 use Rattle.std.proofs.lemmas.Bool.{cases_Bool, cases_lt, true≢false}
 use Rattle.records.specs.Heads.{length_of, kind_of}
@@ -9,10 +9,10 @@ use Rattle.refusals.specs.declared.Refusal.{Refusal}
 use Rattle.refusals.specs.Numbers.{refused}
 use Rattle.labels.specs.Entries.{Entry, Rising, first_entry, bad_length, bad_label, bad_name, fault, read_on, read_book, counted, entries}
 use Rattle.labels.specs.Laws.{IsRecord, MayFollow, IsBook, empty, more, FirstFault, Judged}
-use Rattle.labels.proofs.Faults.{fault_length, fault_label, fault_name, fault_many, fault_none}
+use Rattle.labels.proofs.Faults.{fault_label, fault_name, fault_many, fault_none}
 use Rattle.labels.proofs.Reading.{by_fault, read_step, read_end, fine_parts}
 use Rattle.labels.proofs.Rules.{book_rising, follows_from, label_fine, name_fine}
-use Rattle.labels.proofs.Wholes.{Parts, good_parts, parts_good, name_length}
+use Rattle.labels.proofs.Wholes.{Parts, parts_good, name_length}
 
 -- the head of a record that is followed by others is its own
 length_of_front : (r s : List ℕ) → 6 ≤ length r → length_of (r ++ s) ≡ length_of r

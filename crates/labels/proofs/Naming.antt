@@ -1,5 +1,5 @@
 -- The name that is answered stands beside its label in the book.
-use Rattle.std.proofs.Common.{◌≡◌, ℕ, zero, suc, ◌<◌, true, false, eqb, List, [], ◌∷◌, length, get_or, is_some, is_ok, Some, None, Ok, Err, Option, Result, sym, refl, ap, ◌∙◌, inl, inr, ⊎_elim, arith}
+use Rattle.std.proofs.Common.{◌≡◌, ℕ, suc, eqb, List, [], ◌∷◌, is_some, is_ok, Some, None, Ok, Err, Option, Result, sym, refl, ap, ◌∙◌, inl, inr, ⊎_elim, arith}
 use Rattle.std.proofs.lemmas.Bool.{cases_Bool, cond-true, cond-false, eqb-true, eqb-false, true≢false}
 use Rattle.std.specs.List.{ContainsAt as Has, AllByRecursion as All}
 use Rattle.refusals.specs.declared.Cause.TheVariants.{UnknownName}
@@ -7,7 +7,7 @@ use Rattle.refusals.specs.declared.Layer.TheVariants.{Book}
 use Rattle.refusals.specs.declared.Refusal.{Refusal}
 use Rattle.refusals.specs.Numbers.{refused}
 use Rattle.labels.specs.Entries.{Entry, counted, entries, name_of, named, read_book}
-use Rattle.labels.specs.Laws.{IsBook, Named, FirstFault}
+use Rattle.labels.specs.Laws.{Named}
 use Rattle.labels.proofs.Judging.{Outcome, outcome, no_book}
 
 -- an entry with a label and a name

@@ -1,12 +1,12 @@
 -- One record after the other, as `read-on` has it.
-use Rattle.std.proofs.Common.{◌≡◌, ℕ, zero, suc, ◌+◌, ◌<◌, ◌≤◌, Bool, true, false, List, [], ◌∷◌, length, drop, is_some, Some, None, Ok, Err, Option, Result, sym, refl, ap, ◌∙◌, ⊎_elim, arith}
+use Rattle.std.proofs.Common.{◌≡◌, ℕ, zero, suc, ◌+◌, ◌<◌, List, [], ◌∷◌, length, drop, is_some, Some, None, Ok, Err, Option, Result, sym, refl, ap, ◌∙◌, ⊎_elim, arith}
 use Rattle.std.proofs.lemmas.Bool.{cases_Bool, true≢false}
 use Rattle.records.specs.Heads.{length_of}
 use Rattle.refusals.specs.declared.Cause.{Cause}
 use Rattle.refusals.specs.declared.Layer.TheVariants.{Book}
 use Rattle.refusals.specs.declared.Refusal.{Refusal}
 use Rattle.refusals.specs.Numbers.{refused}
-use Rattle.labels.specs.Entries.{Entry, first_entry, bad_length, fault, read_on, read_book, entries, pairs, label_of, name_of}
+use Rattle.labels.specs.Entries.{Entry, first_entry, bad_length, fault, read_on, read_book, entries, pairs}
 use Rattle.labels.proofs.Faults.{fault_length}
 use Rattle.labels.proofs.Wholes.{Parts, good_parts}
 

@@ -1,6 +1,6 @@
 -- The tests of names and labels say what the rules of books say.
-use Rattle.std.proofs.Common.{◌≡◌, ℕ, ◌+◌, ◌<◌, ◌≤◌, Bool, true, false, not, ◌&&◌, ◌||◌, eqb, ltb, leb, List, [], ◌∷◌, length, is_some, Some, None, sym, refl, ap, ◌∙◌, subst, ⊎_elim, arith}
-use Rattle.std.proofs.lemmas.Bool.{cases_Bool, true≢false, and_parts, and_from, ltb-true, lt-ltb, leb-true, le-leb, not-true, not-false, not_from_false, not_from_true, eqb-false, ne_eqb, ltb-false, le-ltb, or_parts, or_from}
+use Rattle.std.proofs.Common.{◌≡◌, ℕ, ◌<◌, ◌≤◌, true, false, not, eqb, ltb, leb, List, [], ◌∷◌, length, is_some, sym, refl, ap, ◌∙◌, arith}
+use Rattle.std.proofs.lemmas.Bool.{true≢false, and_parts, and_from, ltb-true, lt-ltb, leb-true, le-leb, not-true, not-false, not_from_false, not_from_true, eqb-false, ne_eqb, ltb-false, le-ltb, or_parts, or_from}
 use Rattle.std.proofs.ByRecursion.{All-weaker}
 use Rattle.std.specs.List.{AllByRecursion as All}
 use Rattle.labels.specs.Entries.{Entry, Rising, name_byte, all_name_bytes, good_name, label_of, above_last, bad_label, bad_name}

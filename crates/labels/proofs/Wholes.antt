@@ -1,6 +1,6 @@
 -- Whole records.
-use Rattle.std.proofs.Common.{◌≡◌, ℕ, ◌+◌, ◌-◌, ◌<◌, ◌≤◌, Bool, true, false, ◌||◌, ltb, List, length, take, drop, sym, refl, ap, ◌∙◌, ⊎_elim, arith, length-drop, length-take}
-use Rattle.std.proofs.lemmas.Bool.{or_cases, ltb-true, le-ltb, or_from, or_parts, ltb-false, true≢false}
+use Rattle.std.proofs.Common.{◌≡◌, ℕ, ◌+◌, ◌-◌, ◌≤◌, Bool, true, false, ltb, List, length, drop, sym, ◌∙◌, arith, length-drop, length-take}
+use Rattle.std.proofs.lemmas.Bool.{le-ltb, or_from, or_parts, ltb-false, true≢false}
 use Rattle.records.specs.Heads.{length_of}
 use Rattle.labels.specs.Entries.{first_entry, bad_length}
 

@@ -11,7 +11,7 @@ use Rattle.sessions.specs.declared.call.Call.{Call as Asked}
 use Rattle.sessions.specs.declared.call.Call.TheVariants.{Open, Change, Commit, Abandon, Undo, Settle, Add, Rebuild, Findings, FirstFinding, Bindings}
 use Rattle.sessions.specs.declared.call.Note.{Note}
 use Rattle.sessions.specs.declared.call.Note.TheVariants.{NoReceipt, Done, Opened, Number, Steps, Wrote, Found, Bound, Refused}
-use Rattle.runs.specs.Session.{State, Call, open_click, change, commit, abandon, undo, settle, add, rebuild, ask, Answer, done, receipt, number, steps, wrote, found, bound, refused, making, turn}
+use Rattle.runs.specs.Session.{State, Call, change, commit, abandon, add, Answer, done, receipt, number, steps, wrote, found, bound, refused, making, turn}
 use Rattle.runs.specs.Log.{run}
 use Rattle.runs.specs.Runs.{Reached}
 use Rattle.runs.proofs.Every.{Formed}

@@ -1,17 +1,17 @@
 -- The elements of a pattern text that is accepted are a pattern.
-use Rattle.std.proofs.Common.{◌≡◌, ℕ, zero, suc, ◌+◌, ◌-◌, ◌<◌, ◌≤◌, Bool, true, false, cond, ltb, ◌⊎◌, List, [], ◌∷◌, ◌++◌, length, set, Some, None, Ok, Err, Option, Result, sym, refl, ap, ◌∙◌, subst, inl, inr, ⊎_elim, arith, lit<, lit≤}
+use Rattle.std.proofs.Common.{◌≡◌, ℕ, zero, suc, ◌-◌, ◌<◌, ◌≤◌, Bool, true, false, cond, ltb, List, [], ◌∷◌, ◌++◌, length, set, Some, None, Ok, Err, Option, Result, sym, refl, ap, ◌∙◌, subst, ⊎_elim, arith, lit<, lit≤}
 use Rattle.std.specs.Str.{bytes_eq}
 use Rattle.std.proofs.lemmas.Bool.{ltb-true, ltb-false, cases_Bool, cond-true, cond-false, false≢true}
 use Rattle.refusals.specs.declared.Cause.{Cause}
 use Rattle.refusals.specs.declared.Cause.TheVariants.{TooMany, Unpaired}
 use Rattle.refusals.specs.declared.Refusal.{Refusal}
-use Rattle.labels.specs.Entries.{Entry, label_of}
+use Rattle.labels.specs.Entries.{Entry}
 use Rattle.patterns.specs.declared.row.Element.{Element}
 use Rattle.patterns.specs.declared.row.Element.TheVariants.{Lexeme, Variable, Group}
 use Rattle.patterns.specs.declared.row.Row.{Row}
 use Rattle.patterns.specs.Elements.{extent, least_extent, number_of, elements_of, WellFormed, IsPattern}
 use Rattle.texts.specs.Tokens.{Shape, word, quoted, variable, sign, open_group, close_group, fault, end, Spot, next_token, is_end, lex, tokens_from}
-use Rattle.texts.specs.PatternText.{also, known_label, known_constructor, number_in, number_for, names_with, lexeme_of, variable_of_lem, leaf_of, names_after, Draft, drafted, one_more, with_leaf, with_group, closed, ended, with_token, pattern_fault, pattern_scan, scanned}
+use Rattle.texts.specs.PatternText.{also, known_label, known_constructor, number_in, number_for, names_with, lexeme_of, leaf_of, names_after, Draft, drafted, one_more, with_leaf, with_group, closed, ended, with_token, pattern_fault, pattern_scan, scanned}
 use Rattle.texts.specs.PatternSteps.{Fine}
 use Rattle.texts.proofs.Lexing.{moves, lex_next}
 use Rattle.texts.proofs.Nesting.{Stand, stand_none, stand_leaf, stand_open, stand_closed, stand_whole}

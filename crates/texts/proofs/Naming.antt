@@ -1,11 +1,11 @@
 -- The names that are kept, one by one, and where the name of a variable lies.
-use Rattle.std.proofs.Common.{◌≡◌, ℕ, zero, suc, ◌+◌, ◌-◌, ◌<◌, ◌≤◌, Bool, true, false, cond, ◌&&◌, eqb, ltb, leb, ◌≢◌, List, [], ◌∷◌, length, get_or, set, Some, None, Ok, Err, Option, Result, sym, refl, ap, ◌∙◌, subst, ⊎_elim, add-one, arith, get_or-set_other, get_or-set_same}
+use Rattle.std.proofs.Common.{◌≡◌, ℕ, zero, suc, ◌+◌, ◌-◌, ◌<◌, ◌≤◌, Bool, true, false, cond, ◌&&◌, eqb, ltb, leb, ◌≢◌, List, ◌∷◌, length, get_or, set, Some, None, Ok, Err, Option, Result, sym, refl, ap, ◌∙◌, ⊎_elim, add-one, arith, get_or-set_other, get_or-set_same}
 use Rattle.std.specs.List.{between}
 use Rattle.std.specs.Str.{bytes_eq}
 use Rattle.std.proofs.lemmas.List.Edits.{length-between}
 use Rattle.std.proofs.lemmas.Slice.Eq.{bytes_eq-Decides}
 use Rattle.std.proofs.lemmas.List.{get_or_past}
-use Rattle.std.proofs.lemmas.Bool.{false≢true, true≢false, cond_both, cond-true, cond-false, and_parts, cases_lt, ltb-true, le-ltb, lt-ltb, cases_eq, eq-eqb, ne_eqb}
+use Rattle.std.proofs.lemmas.Bool.{false≢true, cond_both, cond-true, cond-false, and_parts, cases_lt, ltb-true, le-ltb, lt-ltb, cases_eq, eq-eqb, ne_eqb}
 use Rattle.texts.specs.declared.bytes.Kind.TheVariants.{Blanks, Words, Names, Quotes}
 use Rattle.texts.specs.Bytes.{letter, wordy, seen, run_end}
 use Rattle.texts.specs.Tokens.{Lexed, quoted_at, variable_at, constructed_at, percent_at, token_at, next_token}

@@ -1,5 +1,5 @@
 -- What the steps of a reading leave to be read, and what it answers in the end.
-use Rattle.std.proofs.Common.{◌≡◌, ℕ, ◌+◌, ◌<◌, ◌≤◌, false, cond, ltb, List, [], ◌∷◌, ◌++◌, length, take, drop, set, Ok, Err, Result, sym, refl, ap, ◌∙◌, subst, arith, length-set, length-take-le, drop-drop, drop-set-lt}
+use Rattle.std.proofs.Common.{◌≡◌, ℕ, ◌+◌, ◌<◌, ◌≤◌, false, cond, ltb, List, [], ◌∷◌, ◌++◌, length, take, drop, set, Ok, Err, Result, sym, refl, ap, ◌∙◌, subst, arith, length-set, drop-drop, drop-set-lt}
 use Rattle.std.proofs.lemmas.List.{length_push, take_more_set}
 use Rattle.refusals.specs.declared.Refusal.{Refusal}
 use Rattle.labels.specs.Entries.{Entry, counted, entries, read_book}
@@ -8,7 +8,7 @@ use Rattle.texts.specs.declared.nest.Nest.{Nest}
 use Rattle.texts.specs.declared.nest.Step.{Step}
 use Rattle.texts.specs.declared.nest.Step.TheVariants.{Node, Closed, Done}
 use Rattle.texts.specs.Tokens.{Spot, tokens, tokens_from}
-use Rattle.texts.specs.TreeText.{after, tree_scan, read_records_lem, room_for, tree_answer, tree_slots}
+use Rattle.texts.specs.TreeText.{after, tree_scan, room_for, tree_answer, tree_slots}
 use Rattle.texts.specs.Steps.{scan_from, Stepped}
 use Rattle.texts.proofs.Winning.{ok_is_not_err, grows}
 

@@ -1,5 +1,5 @@
 -- Kinds of bytes, and where a run of them ends.
-use Rattle.std.specs.Prelude.{ℕ, ◌+◌, Bool, not, ◌&&◌, ◌||◌, List, drop, ◌==◌, nat_le}
+use Rattle.std.specs.Prelude.{ℕ, ◌+◌, Bool, ◌&&◌, ◌||◌, List, drop, ◌==◌, nat_le}
 use Rattle.std.specs.List.{prefix_len}
 use Rattle.labels.specs.Entries.{name_byte}
 use Rattle.texts.specs.declared.bytes.Kind.{Kind}

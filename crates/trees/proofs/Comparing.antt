@@ -1,9 +1,8 @@
 -- The same tree, and the questions that tell it; a label that is taken back.
-use Rattle.std.proofs.Common.{◌≡◌, ℕ, zero, suc, ◌+◌, ◌<◌, ◌≤◌, Bool, true, false, ◌&&◌, ltb, List, [], ◌∷◌, length, get_or, drop, Ok, Err, Result, sym, refl, ap, ◌∙◌, ⊎_elim, arith}
+use Rattle.std.proofs.Common.{◌≡◌, ℕ, ◌+◌, ◌<◌, ◌≤◌, Bool, true, false, ◌&&◌, ltb, length, get_or, drop, Ok, Err, sym, refl, ap, ◌∙◌, ⊎_elim, arith}
 use Rattle.std.proofs.lemmas.List.{drop_more, drop_all, ext_get_or}
-use Rattle.std.proofs.lemmas.Bool.{cases_lt, cases_Bool, lt-ltb, le-ltb, cond-true, cond-false, and_left, true≢false}
-use Rattle.refusals.specs.declared.Refusal.{Refusal}
-use Rattle.trees.specs.Forest.{Node, Forest, Law, no_node, label_at, size_at, relabel, same_node, same}
+use Rattle.std.proofs.lemmas.Bool.{cases_lt, cases_Bool, lt-ltb, le-ltb, cond-true, cond-false, and_left}
+use Rattle.trees.specs.Forest.{Forest, no_node, label_at, size_at, relabel, same_node, same}
 use Rattle.trees.specs.Questions.{label_answer, size_answer, no_such_place}
 use Rattle.trees.specs.Laws.{Alike, MakesAgree}
 use Rattle.trees.proofs.Same.{same_true, same_is_equal}

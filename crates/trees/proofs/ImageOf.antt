@@ -1,5 +1,5 @@
 -- The image of a tree is accepted and means the tree, and accepted bytes are the image of what they mean.
-use Rattle.std.proofs.Common.{◌≡◌, ℕ, zero, suc, ◌+◌, ◌*◌, ◌/◌, ◌%◌, ◌<◌, ◌≤◌, true, false, List, [], ◌∷◌, ◌++◌, map, length, get_or, drop, is_ok, Ok, Err, Result, sym, refl, ap, ◌∙◌, subst, ⊎_elim, arith}
+use Rattle.std.proofs.Common.{◌≡◌, ℕ, zero, suc, ◌+◌, ◌*◌, ◌/◌, ◌%◌, ◌<◌, ◌≤◌, true, false, List, [], ◌∷◌, ◌++◌, map, length, get_or, drop, is_ok, Ok, Err, Result, sym, refl, ap, ◌∙◌, ⊎_elim, arith}
 use Rattle.std.specs.List.{range_with_len}
 use Rattle.std.proofs.lemmas.List.{ext_get_or, drop_more, drop_all}
 use Rattle.std.proofs.lemmas.Bool.{cases_lt}
@@ -11,7 +11,7 @@ use Rattle.trees.specs.Windows.{sound, fits_whole}
 use Rattle.trees.specs.Leaves.{kept_sound}
 use Rattle.trees.specs.Enclosing.{under_root}
 use Rattle.trees.specs.Opens.{around_in, around_out, around_length}
-use Rattle.trees.specs.Imaging.{many, at, size_read, label_read, Fit, FitsAt, Taken, taken, takes, exact, image_law}
+use Rattle.trees.specs.Imaging.{many, at, FitsAt, Taken, taken, takes, exact, image_law}
 
 pub length_image : (m : Forest) → length (image_of m) ≡ 6 * length m
 length_image [] = refl

@@ -1,15 +1,13 @@
 -- The outline of a tree is accepted and means the tree, and accepted records are the outline of what they mean.
-use Rattle.std.proofs.Common.{◌≡◌, ℕ, zero, suc, ◌+◌, ◌-◌, ◌<◌, ◌≤◌, true, List, map, length, get_or, drop, is_ok, Ok, Result, sym, refl, ap, ◌∙◌, subst, arith, length-drop}
-use Rattle.std.specs.List.{range_with_len}
+use Rattle.std.proofs.Common.{◌≡◌, ℕ, zero, suc, ◌+◌, ◌-◌, ◌<◌, ◌≤◌, List, length, get_or, drop, is_ok, Ok, Result, sym, ap, ◌∙◌, arith, length-drop}
 use Rattle.refusals.specs.declared.Refusal.{Refusal}
 use Rattle.std.proofs.lemmas.List.FromFn.{length-map-range_with_len, get_or-map-range_with_len}
 use Rattle.std.proofs.lemmas.List.{ext_get_or, get_or-drop}
 use Rattle.trees.specs.declared.record.Record.{Record}
-use Rattle.trees.specs.Forest.{Node, Forest, Law, no_node, size_at, label_at, enclosing}
-use Rattle.trees.specs.Scan.{kept}
+use Rattle.trees.specs.Forest.{Forest, Law, no_node, size_at, label_at, enclosing}
 use Rattle.trees.specs.Outlines.{no_record, depth_limit, deeper, outline_nodes, outline_answer, outline_of, outline_meaning}
 use Rattle.trees.specs.Laws.{TakesOutlines}
-use Rattle.trees.specs.Windows.{Sound, sound, fits_whole}
+use Rattle.trees.specs.Windows.{sound, fits_whole}
 use Rattle.trees.specs.Faults.{Fine, Accepted, accepted, accepts}
 use Rattle.trees.specs.Outlining.{length_nodes, label_read, size_read, deeper_to, depth_read, outline_law}
 use Rattle.trees.specs.Leaves.{kept_sound}

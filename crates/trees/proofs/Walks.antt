@@ -1,12 +1,11 @@
 -- The steps of the walk that checks an image.
-use Rattle.std.proofs.Common.{◌≡◌, ℕ, zero, suc, ◌+◌, ◌*◌, ◌/◌, ◌<◌, ◌≤◌, List, [], ◌∷◌, length, get_or, set, Some, None, Option, sym, refl, ap, ◌∙◌, subst, arith}
+use Rattle.std.proofs.Common.{◌≡◌, ℕ, ◌+◌, ◌/◌, ◌<◌, List, length, set, None, Option, sym, ap, ◌∙◌, subst, arith}
 use Rattle.refusals.specs.declared.Cause.{Cause}
 use Rattle.trees.specs.Forest.{Forest}
 use Rattle.trees.specs.Images.{length_in, image_nodes, around, inner_end, place_fault, image_fault}
 use Rattle.trees.specs.Opened.{popped, top}
-use Rattle.trees.specs.Scans.{Clean}
 use Rattle.trees.specs.Opens.{Nested, Opened, opened_more, top_length, top_push}
-use Rattle.trees.specs.Imaging.{Fit, fit, FitsAt, nested_fit, size_read}
+use Rattle.trees.specs.Imaging.{fit, nested_fit, size_read}
 
 -- the array tells the ends around the place
 pub ends_are : (m : Forest) (p used k : ℕ) (xs : List ℕ) → Opened m p (top xs used) → top xs k ≡ popped p (top xs used) → top xs k ≡ around m p p

@@ -1,14 +1,14 @@
 -- A label stored in an image's bytes.
-use Rattle.std.specs.Prelude.{◌≡◌, ℕ, zero, suc, ◌+◌, ◌*◌, ◌/◌, ◌%◌, ◌<◌, ◌≤◌, Bool, true, false, ◌≢◌, List, [], ◌∷◌, length, get_or, set, is_ok, slice_index, slice_index_or, slice_set, refl}
+use Rattle.std.specs.Prelude.{◌≡◌, ℕ, ◌+◌, ◌*◌, ◌/◌, ◌%◌, ◌<◌, ◌≤◌, Bool, true, ◌≢◌, List, length, get_or, set, is_ok, slice_index, slice_index_or, slice_set}
 use Rattle.std.proofs.Common.{ap, sym, ◌∙◌, ⊎_elim, arith, length-set, get_or-set_same, get_or-set_other}
 use Rattle.std.proofs.lemmas.List.{ext_get_or, get_or_past}
 use Rattle.std.proofs.lemmas.Bool.{cases_eq, cases_lt}
-use Rattle.trees.specs.Forest.{Node, Forest, Law, no_node, with_label, size_at, label_at, relabel}
+use Rattle.trees.specs.Forest.{Law, no_node, with_label, size_at, relabel}
 use Rattle.trees.specs.Scan.{kept}
 use Rattle.trees.specs.Images.{length_in, label_in, node_in, image_nodes, around, inner_end, image_answer}
 use Rattle.trees.specs.Leaves.{kept_law, kept_sound}
 use Rattle.trees.specs.Opens.{around_sized}
-use Rattle.trees.specs.Imaging.{many, at, Fit, FitsAt, Taken, taken, takes, exact, image_law}
+use Rattle.trees.specs.Imaging.{many, at, FitsAt, taken, takes, image_law}
 
 -- bytes that differ in one label alone
 pub record Relabelled (bs cs : List ℕ) (p l : ℕ) : Type 0 where

@@ -1,14 +1,14 @@
 -- The nodes of an image, what it says of bytes that they are accepted, and that their nodes keep the law of trees.
-use Rattle.std.specs.Prelude.{◌≡◌, ℕ, zero, suc, ◌+◌, ◌*◌, ◌/◌, ◌%◌, ◌<◌, ◌≤◌, Bool, true, false, cond, ◌&&◌, ◌||◌, List, [], ◌∷◌, length, is_ok, Some, None, Ok, Err, Option, ◌==◌, nat_lt, slice_index_or, refl}
+use Rattle.std.specs.Prelude.{◌≡◌, ℕ, zero, suc, ◌+◌, ◌*◌, ◌/◌, ◌%◌, ◌<◌, ◌≤◌, true, false, ◌&&◌, ◌||◌, List, length, is_ok, Some, None, Ok, Err, ◌==◌, nat_lt, slice_index_or}
 use Rattle.std.proofs.Common.{ap, sym, subst, ◌∙◌, ⊎_elim, arith, add-one}
 use Rattle.std.proofs.lemmas.List.FromFn.{length-map-range_with_len, get_or-map-range_with_len}
 use Rattle.std.proofs.lemmas.List.{get_or_past}
-use Rattle.std.proofs.lemmas.Bool.{cases_lt, cases_eq, ltb-false, le-ltb, eqb-false, ne_eqb, eq-eqb, and_cases, or_parts, or_from, cond-true, cond-false}
+use Rattle.std.proofs.lemmas.Bool.{cases_lt, ltb-false, le-ltb, eqb-false, ne_eqb, eq-eqb, and_cases, or_parts, or_from, cond-true, cond-false}
 use Rattle.refusals.specs.declared.Cause.{Cause}
 use Rattle.refusals.specs.declared.Cause.TheVariants.{OneTree, BadLength, BadLabel, TooMany}
 use Rattle.refusals.specs.declared.Layer.TheVariants.{Image}
 use Rattle.refusals.specs.Numbers.{refused}
-use Rattle.trees.specs.Forest.{Node, Forest, Law, no_node, size_at, label_at, enclosing}
+use Rattle.trees.specs.Forest.{Forest, Law, no_node, size_at, label_at, enclosing}
 use Rattle.trees.specs.Scan.{scan}
 use Rattle.trees.specs.Images.{length_in, label_in, node_in, image_nodes, around, inner_end, place_fault, image_fault, image_answer}
 use Rattle.trees.specs.Scans.{Clean, scan_all, scan_first, clean}

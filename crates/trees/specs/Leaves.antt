@@ -1,6 +1,6 @@
 -- A single leaf keeps the law, and what a make means by its flag.
-use Rattle.std.specs.Prelude.{◌≡◌, ℕ, zero, suc, ◌+◌, ◌<◌, ◌≤◌, Bool, true, false, [], ◌∷◌, length, refl}
-use Rattle.std.proofs.Common.{ap, sym, ◌∙◌, arith}
+use Rattle.std.specs.Prelude.{◌≡◌, ℕ, zero, suc, ◌<◌, Bool, true, false, length, refl}
+use Rattle.std.proofs.Common.{ap, arith}
 use Rattle.std.proofs.lemmas.Bool.{true≢false}
 use Rattle.trees.specs.Forest.{Forest, Law, label_at, relabel}
 use Rattle.trees.specs.Scan.{leaf, kept}

@@ -1,5 +1,4 @@
 -- What the makes of trees mean.
-use Rattle.std.specs.Prelude.{ℕ}
 use Rattle.trees.specs.declared.image.Image.{Image}
 use Rattle.trees.specs.declared.outline.Outline.{Outline}
 use Rattle.trees.specs.Forest.{Forest}

@@ -1,9 +1,8 @@
 -- A label stored in an outline's records.
-use Rattle.std.specs.Prelude.{◌≡◌, ℕ, zero, suc, ◌+◌, ◌<◌, ◌≤◌, Bool, true, false, cond, List, [], ◌∷◌, length, get_or, is_ok, nat_lt, slice_index_or, slice_set, refl}
-use Rattle.std.proofs.Common.{ap, sym, subst, ◌∙◌, ⊎_elim, arith, length-set, get_or-set_same, get_or-set_other}
-use Rattle.std.proofs.lemmas.Bool.{cases_eq}
+use Rattle.std.specs.Prelude.{◌≡◌, ℕ, zero, suc, ◌+◌, ◌<◌, ◌≤◌, Bool, true, cond, List, [], ◌∷◌, length, get_or, is_ok, nat_lt, slice_index_or, slice_set, refl}
+use Rattle.std.proofs.Common.{ap, sym, ◌∙◌, arith, length-set}
 use Rattle.trees.specs.declared.record.Record.{Record}
-use Rattle.trees.specs.Forest.{Node, Forest, Law, relabel}
+use Rattle.trees.specs.Forest.{Law, relabel}
 use Rattle.trees.specs.Scan.{kept}
 use Rattle.trees.specs.Outlines.{no_record, depth_limit, deeper, outline_nodes, outline_answer}
 use Rattle.trees.specs.Faults.{Fine, Accepted, accepted, accepts}

@@ -1,5 +1,5 @@
 -- Outlines: which records are one, what they mean, and the outline of a tree.
-use Rattle.std.specs.Prelude.{◌≡◌, ℕ, zero, suc, ◌+◌, Bool, true, false, cond, ◌&&◌, ◌||◌, List, [], ◌∷◌, map, length, get_or, is_ok, Some, None, Ok, Err, Option, Result, ◌==◌, nat_lt, slice_index_or}
+use Rattle.std.specs.Prelude.{ℕ, zero, suc, ◌+◌, cond, ◌&&◌, ◌||◌, List, [], ◌∷◌, map, length, get_or, is_ok, Some, None, Err, Option, Result, ◌==◌, nat_lt, slice_index_or}
 use Rattle.std.specs.List.{range_with_len}
 use Rattle.refusals.specs.declared.Cause.{Cause}
 use Rattle.refusals.specs.declared.Cause.TheVariants.{OneTree, BadLength, BadLabel, TooMany}
@@ -7,7 +7,7 @@ use Rattle.refusals.specs.declared.Layer.TheVariants.{Tree}
 use Rattle.refusals.specs.declared.Refusal.{Refusal}
 use Rattle.refusals.specs.Numbers.{refused}
 use Rattle.trees.specs.declared.record.Record.{Record}
-use Rattle.trees.specs.Forest.{Node, Forest, enclosing, label_at}
+use Rattle.trees.specs.Forest.{Forest, enclosing, label_at}
 use Rattle.trees.specs.Scan.{scan, kept}
 
 -- What is read where there is no record.

@@ -1,13 +1,13 @@
 -- The nodes of an outline: what is read off the records, and that accepted records keep the law of trees.
-use Rattle.std.specs.Prelude.{◌≡◌, ℕ, zero, suc, ◌+◌, ◌<◌, ◌≤◌, min, Bool, true, false, cond, ◌⊎◌, List, [], ◌∷◌, length, get_or, drop, nat_lt, slice_index_or, refl}
-use Rattle.std.proofs.Common.{ap, sym, subst, ◌∙◌, inl, inr, ⊎_elim, arith, length-set, get_or-set_same, get_or-set_other}
+use Rattle.std.specs.Prelude.{◌≡◌, ℕ, zero, suc, ◌+◌, ◌<◌, ◌≤◌, min, cond, ◌⊎◌, List, [], ◌∷◌, length, get_or, drop, nat_lt, slice_index_or, refl}
+use Rattle.std.proofs.Common.{ap, sym, ◌∙◌, inl, inr, ⊎_elim, arith}
 use Rattle.std.proofs.lemmas.Bool.Decides.{nat_tests}
-use Rattle.std.proofs.lemmas.List.{drop_more, ext_get_or}
-use Rattle.std.proofs.lemmas.Bool.{cases_lt, cases_eq, lt-ltb, le-ltb}
+use Rattle.std.proofs.lemmas.List.{drop_more}
+use Rattle.std.proofs.lemmas.Bool.{cases_lt, lt-ltb, le-ltb}
 use Rattle.trees.specs.declared.record.Record.{Record}
-use Rattle.trees.specs.Forest.{Node, Forest, Law, no_node, size_at, label_at, enclosing, relabel}
-use Rattle.trees.specs.Outlines.{no_record, depth_limit, deeper, outline_nodes}
-use Rattle.trees.specs.Faults.{Fine, Accepted}
+use Rattle.trees.specs.Forest.{Node, Forest, Law, size_at, label_at, enclosing}
+use Rattle.trees.specs.Outlines.{no_record, deeper, outline_nodes}
+use Rattle.trees.specs.Faults.{Accepted}
 
 pub length_nodes : (rs : List Record) → length (outline_nodes rs) ≡ length rs
 length_nodes [] = refl

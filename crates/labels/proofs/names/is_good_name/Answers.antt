@@ -1,8 +1,8 @@
 -- The bytes before the index all may stand in a name.
-use Rattle.std.proofs.Common.{◌≡◌, ℕ, ◌+◌, ◌<◌, Bool, true, false, ◌&&◌, ltb, leb, length, get_or, drop, sym, refl, ap, ◌∙◌, arith}
+use Rattle.std.proofs.Common.{◌≡◌, ◌+◌, Bool, true, false, ◌&&◌, ltb, leb, length, get_or, drop, sym, ap, ◌∙◌, arith}
 use Rattle.std.proofs.lemmas.List.{at_drop_more, at_drop_all}
 use Rattle.std.proofs.lemmas.Bool.{lt-ltb, le-leb, and_right, and_from, eqb-false}
-use Rattle.labels.specs.Entries.{all_name_bytes, name_byte, good_name}
+use Rattle.labels.specs.Entries.{all_name_bytes, name_byte}
 use Rattle.labels.proofs.names.is_good_name.Goals as goal
 
 pub returns-then-not-is_name_byte : goal.returns-then-not-is_name_byte

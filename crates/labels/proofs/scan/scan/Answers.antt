@@ -1,10 +1,8 @@
 -- The loop reads as `read-on` does.
-use Rattle.std.proofs.Common.{◌≡◌, ℕ, suc, ◌+◌, ◌-◌, ◌<◌, ◌≤◌, [], ◌∷◌, length, drop, Err, sym, refl, ap, ◌∙◌, arith, length-drop}
+use Rattle.std.proofs.Common.{◌≡◌, ℕ, suc, ◌+◌, ◌-◌, length, drop, Err, sym, ap, ◌∙◌, arith, length-drop}
 use Rattle.std.proofs.lemmas.List.{drop-drop, drop_all}
 use Rattle.records.specs.Heads.{length_of}
-use Rattle.refusals.specs.declared.Layer.TheVariants.{Book}
-use Rattle.refusals.specs.Numbers.{refused}
-use Rattle.labels.specs.Entries.{first_entry, read_on}
+use Rattle.labels.specs.Entries.{read_on}
 use Rattle.labels.specs.Index.{known}
 use Rattle.labels.proofs.Chains.{length_noted}
 use Rattle.labels.proofs.Reading.{read_step, read_fault, read_end, fine_parts}

@@ -1,5 +1,5 @@
 -- Each pair lies inside the two subtrees, and tells whether they go on alike.
-use Rattle.std.proofs.Common.{◌≡◌, ℕ, ◌+◌, ◌<◌, ◌≤◌, ◌&&◌, eqb, length, get_or, sym, refl, ap, ◌∙◌, subst, arith}
+use Rattle.std.proofs.Common.{◌≡◌, ℕ, ◌+◌, ◌<◌, ◌≤◌, length, get_or, sym, refl, ap, ◌∙◌, subst, arith}
 use Rattle.trees.specs.Forest.{Forest, Law, no_node, size_at, same_node}
 use Rattle.trees.specs.Windows.{Sound, sound, fits_whole}
 use Rattle.matching.proofs.Comparing.{SoFar, nodes_tested, none_yet, there, one_more, differ, all_alike}

@@ -1,5 +1,5 @@
 -- Behind the end a list has its default.
-use Rattle.std.proofs.Common.{sym, arith, rules}
+use Rattle.std.proofs.Common.{sym, arith}
 use Rattle.std.proofs.lemmas.List.{get_or_past}
 use Rattle.texts.proofs.bytes.byte_at.Goals as goal
 

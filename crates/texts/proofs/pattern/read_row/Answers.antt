@@ -1,5 +1,5 @@
 -- The outermost level and the end behind it are the whole text.
-use Rattle.std.proofs.Common.{◌≡◌, ℕ, List, ap, ◌∙◌, subst}
+use Rattle.std.proofs.Common.{ℕ, List, ap, subst}
 use Rattle.labels.specs.Entries.{entries}
 use Rattle.texts.specs.PatternSteps.{Ended}
 use Rattle.texts.proofs.Grouping.{read_whole}

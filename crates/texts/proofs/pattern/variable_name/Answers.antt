@@ -1,8 +1,8 @@
 -- Each variable adds its name if that is new, and no other token adds one.
-use Rattle.std.proofs.Common.{◌≡◌, ℕ, ◌<◌, ◌≤◌, false, List, [], length, sym, refl, ap, ◌∙◌, subst, arith}
+use Rattle.std.proofs.Common.{◌≡◌, ℕ, ◌<◌, ◌≤◌, false, List, [], length, sym, ap, ◌∙◌, subst, arith}
 use Rattle.texts.specs.declared.token.Token.TheVariants.{Variable}
-use Rattle.texts.specs.Tokens.{Shape, end, shape, next_token, is_end, tokens, tokens_from}
-use Rattle.texts.specs.PatternText.{name_numbered, names_after, names_among, names_with}
+use Rattle.texts.specs.Tokens.{Shape, shape, next_token, is_end, tokens_from}
+use Rattle.texts.specs.PatternText.{name_numbered, names_among}
 use Rattle.texts.specs.PatternSteps.{names_in, EndsAt}
 use Rattle.texts.proofs.Lexing.{moves}
 use Rattle.texts.proofs.Naming.{name_ends}

@@ -1,9 +1,9 @@
 -- Each way through a step is one token of the text, or a word and the sign behind it.
-use Rattle.std.proofs.Common.{◌≡◌, ℕ, ◌+◌, ◌-◌, true, false, List, [], ◌∷◌, ◌++◌, length, Some, None, Ok, Err, sym, refl, ap, ◌∙◌, ⊎_elim, arith, rules}
+use Rattle.std.proofs.Common.{◌≡◌, ℕ, ◌+◌, ◌-◌, true, false, [], ◌∷◌, ◌++◌, length, Some, None, Err, sym, refl, ap, ◌∙◌, ⊎_elim, arith, rules}
 use Rattle.std.proofs.lemmas.Result.{err_from_is_err_and}
 use Rattle.refusals.specs.declared.Cause.TheVariants.{BadText}
 use Rattle.labels.specs.Entries.{entries}
-use Rattle.texts.specs.Tokens.{shape, word, quoted, sign, end, next_token, is_end, tokens_from}
+use Rattle.texts.specs.Tokens.{shape, next_token, is_end, tokens_from}
 use Rattle.texts.specs.TreeText.{is_open, node_answer, sign_fault_lem, end_fault_lem, tree_fault, tree_scan}
 use Rattle.texts.proofs.Lexing.{moves}
 use Rattle.texts.proofs.TreeSteps.{quoted_node, quoted_refused, word_node, word_refused, word_alone, sign_step, sign_wrong, spelt_wrong, open_wrong, close_wrong, fault_wrong, end_done, end_wrong}

@@ -1,5 +1,5 @@
 -- A node or the end of one leads on, and the end of the tree or a fault is the answer.
-use Rattle.std.proofs.Common.{◌≡◌, ◌<◌, ◌≤◌, [], length, Ok, sym, ap, ◌∙◌, subst, arith}
+use Rattle.std.proofs.Common.{◌<◌, ◌≤◌, [], length, Ok, ap, ◌∙◌, subst, arith}
 use Rattle.std.proofs.lemmas.Result.{err_from_is_err_and}
 use Rattle.labels.specs.Entries.{entries}
 use Rattle.texts.specs.Steps.{Stepped}

@@ -1,9 +1,8 @@
 -- A node that is read has a slot, which it fills; in the end all slots are as they should be.
-use Rattle.std.proofs.Common.{◌≡◌, ◌<◌, ◌≤◌, List, [], ◌∷◌, ◌++◌, length, take, drop, Ok, Err, sym, refl, ap, ◌∙◌, subst, arith, length-take-le}
+use Rattle.std.proofs.Common.{◌≡◌, ◌<◌, ◌≤◌, [], ◌∷◌, ◌++◌, length, take, drop, Ok, sym, refl, ap, ◌∙◌, subst, arith, length-take-le}
 use Rattle.std.proofs.lemmas.List.{take-append-drop}
 use Rattle.labels.specs.Entries.{entries}
-use Rattle.texts.specs.declared.nest.Step.{Step}
-use Rattle.texts.specs.declared.nest.Step.TheVariants.{Node, Closed, Done}
+use Rattle.texts.specs.declared.nest.Step.TheVariants.{Node, Closed}
 use Rattle.texts.specs.Steps.{Stepped}
 use Rattle.texts.proofs.Winning.{same_ok, ok_is_not_err}
 use Rattle.texts.proofs.TreeLoops.{Reads, begins, node_on, closed_on, done_on, err_on, has_slot, write_on}

@@ -1,7 +1,7 @@
 -- What the proof of `write::write_image` is asked to show.
-use Rattle.std.proofs.Common.{◌≡◌, ◌+◌, ◌-◌, ◌*◌, ◌<◌, false, ltb, ◌++◌, length, get_or, drop, Ok, sym, refl, ap, ◌∙◌, arith}
+use Rattle.std.proofs.Common.{◌≡◌, ◌+◌, ◌-◌, ◌*◌, ◌<◌, false, ltb, ◌++◌, length, get_or, drop, Ok, sym, ap, ◌∙◌, arith}
 use Rattle.std.proofs.lemmas.Bool.{le-ltb, cond-false}
-use Rattle.trees.specs.Forest.{Node, no_node, label_at, size_at}
+use Rattle.trees.specs.Forest.{no_node, label_at, size_at}
 use Rattle.trees.specs.Images.{node_bytes, image_of}
 use Rattle.trees.specs.Windows.{sound, fits_whole}
 use Rattle.trees.proofs.Writes.{size_is, label_is, write_more, write_all, reads_back}

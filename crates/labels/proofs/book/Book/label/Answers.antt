@@ -1,5 +1,5 @@
 -- The index knows the entries of the book.
-use Rattle.std.proofs.Common.{◌≡◌, ap, ◌∙◌}
+use Rattle.std.proofs.Common.{ap, ◌∙◌}
 use Rattle.labels.specs.Entries.{label_of}
 use Rattle.labels.proofs.Reading.{pairs_tell}
 use Rattle.labels.proofs.book.Book.label.Goals as goal

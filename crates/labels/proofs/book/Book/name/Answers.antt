@@ -1,5 +1,5 @@
 -- The entries of a book rise, and the index knows them.
-use Rattle.std.proofs.Common.{◌≡◌, sym, ap, ◌∙◌, subst}
+use Rattle.std.proofs.Common.{sym, ap, ◌∙◌, subst}
 use Rattle.labels.specs.Entries.{Rising, name_of}
 use Rattle.labels.proofs.Judging.{entries_rise}
 use Rattle.labels.proofs.Reading.{pairs_tell}

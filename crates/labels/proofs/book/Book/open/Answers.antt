@@ -1,11 +1,11 @@
 -- What the scan noted is the book's index; of bytes that are no book nothing is noted.
-use Rattle.std.proofs.Common.{◌≡◌, ℕ, [], length, Ok, Err, sym, refl, ap, ◌∙◌, subst}
-use Rattle.labels.specs.Entries.{entries, pairs, counted, read_book}
+use Rattle.std.proofs.Common.{◌≡◌, [], Ok, sym, refl, ap, ◌∙◌, subst}
+use Rattle.labels.specs.Entries.{pairs, counted}
 use Rattle.labels.specs.Laws.{Judged}
 use Rattle.labels.specs.Index.{known, noted}
 use Rattle.labels.proofs.Chains.{length_noted}
 use Rattle.labels.proofs.Judging.{judged}
-use Rattle.labels.proofs.Reading.{entries_ok, entries_err}
+use Rattle.labels.proofs.Reading.{entries_err}
 use Rattle.labels.proofs.book.Book.open.Goals as goal
 
 pub scan-requires : goal.scan-requires

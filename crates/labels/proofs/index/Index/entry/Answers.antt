@@ -1,5 +1,5 @@
 -- The record of a known number is whole, so it is read.
-use Rattle.std.proofs.Common.{◌≡◌, true, get_or, drop, sym, ap, ◌∙◌, subst}
+use Rattle.std.proofs.Common.{get_or, sym, ap, ◌∙◌}
 use Rattle.std.proofs.lemmas.List.{take_rest}
 use Rattle.labels.specs.Entries.{bad_length, first_entry}
 use Rattle.labels.proofs.Wholes.{whole_length}

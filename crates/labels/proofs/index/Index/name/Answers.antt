@@ -1,5 +1,5 @@
 -- Each turn leaves the half in which the label may stand.
-use Rattle.std.proofs.Common.{◌≡◌, ℕ, suc, ◌+◌, ◌-◌, ◌/◌, ◌<◌, ◌≤◌, Some, sym, ap, ◌∙◌, add-one, arith}
+use Rattle.std.proofs.Common.{◌≡◌, ℕ, ◌+◌, ◌-◌, ◌/◌, Some, sym, ap, ◌∙◌, add-one, arith}
 use Rattle.labels.specs.Entries.{name_of}
 use Rattle.labels.specs.Index.{record_at, noted}
 use Rattle.labels.proofs.Halving.{label_at, same_label, passes, lower, higher, rises_at}

@@ -1,7 +1,6 @@
 -- The tests of a record in their order, and the note of a record that passes them.
-use Rattle.std.proofs.Common.{◌≡◌, ℕ, ◌+◌, ◌-◌, ◌<◌, ◌≤◌, Bool, true, false, List, length, take, drop, sym, ap, ◌∙◌, arith, length-drop, length-take, rules}
+use Rattle.std.proofs.Common.{◌≡◌, ℕ, ◌<◌, Bool, true, false, List, length, drop, sym, ap, ◌∙◌, arith, length-drop, rules}
 use Rattle.std.proofs.lemmas.List.{take_rest}
-use Rattle.records.specs.Heads.{length_of}
 use Rattle.labels.specs.Entries.{Entry, bad_length, bad_label, bad_name, first_entry}
 use Rattle.labels.specs.Index.{bucket_of, known}
 use Rattle.labels.proofs.Chains.{Note, note_known, note_indexed, length_noted}

@@ -1,5 +1,5 @@
 -- A group is closed by the token that closes groups, where something stands in it.
-use Rattle.std.proofs.Common.{◌≡◌, ℕ, ◌-◌, length, set, Err, sym, refl, ap, ◌∙◌, arith, length-set, rules}
+use Rattle.std.proofs.Common.{ℕ, ◌-◌, length, set, Err, sym, refl, ap, ◌∙◌, arith, length-set, rules}
 use lib.Seq.{take-set-lt}
 use Rattle.refusals.specs.declared.Cause.TheVariants.{Unpaired}
 use Rattle.patterns.specs.declared.row.Element.TheVariants.{Group}

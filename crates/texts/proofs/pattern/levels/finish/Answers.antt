@@ -1,5 +1,5 @@
 -- A pattern ends with the text, where it has an element.
-use Rattle.std.proofs.Common.{◌≡◌, ℕ, ◌<◌, ◌≤◌, length, Err, sym, refl, ap, ◌∙◌, arith, rules}
+use Rattle.std.proofs.Common.{ℕ, Err, sym, ap, ◌∙◌, arith}
 use Rattle.refusals.specs.declared.Cause.TheVariants.{Unpaired}
 use Rattle.patterns.specs.Elements.{elements_of}
 use Rattle.texts.specs.PatternText.{pattern_fault}

@@ -1,5 +1,5 @@
 -- What the proof of `image::Image::store` is asked to show.
-use Rattle.std.proofs.Common.{◌≡◌, ◌+◌, ◌*◌, ◌/◌, ◌%◌, ◌<◌, true, length, get_or, set, is_ok, sym, refl, ap, ◌∙◌, arith, length-set}
+use Rattle.std.proofs.Common.{◌≡◌, ◌+◌, ◌*◌, ◌/◌, ◌%◌, ◌<◌, true, length, get_or, is_ok, sym, refl, ap, ◌∙◌, arith, length-set}
 use Rattle.trees.specs.Forest.{relabel}
 use Rattle.trees.specs.Images.{image_nodes, image_answer}
 use Rattle.trees.specs.Imaging.{many, taken}

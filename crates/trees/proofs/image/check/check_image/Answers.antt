@@ -1,6 +1,6 @@
 -- What the proof of `image::check::check_image` is asked to show.
-use Rattle.std.proofs.Common.{◌≡◌, ◌+◌, ◌/◌, ◌<◌, length, get_or, Some, None, Ok, Err, sym, refl, ap, ◌∙◌, arith, length-set, rules, below_more}
-use Rattle.trees.specs.Images.{image_fault, place_fault, image_answer}
+use Rattle.std.proofs.Common.{◌≡◌, ◌+◌, ◌/◌, Some, None, Err, sym, refl, ap, ◌∙◌, arith, length-set, rules, below_more}
+use Rattle.trees.specs.Images.{image_fault, image_answer}
 use Rattle.trees.specs.Imaging.{fit, Fit, image_stops, takes, Taken}
 use Rattle.trees.proofs.ImageOf.{takes_images, takes_none, one_image}
 use Rattle.trees.proofs.Walks.{walk_fault, walk_more}

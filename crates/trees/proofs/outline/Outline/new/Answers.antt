@@ -1,5 +1,5 @@
 -- What the proof of `outline::Outline::new` is asked to show.
-use Rattle.std.proofs.Common.{◌≡◌, is_ok, sym, refl, ap, ◌∙◌, rules}
+use Rattle.std.proofs.Common.{◌≡◌, is_ok, refl, ap, ◌∙◌, rules}
 use Rattle.trees.specs.Scan.{kept}
 use Rattle.trees.specs.Outlines.{outline_nodes, outline_answer, outline_meaning}
 use Rattle.trees.proofs.OutlineOf.{outline_meant}

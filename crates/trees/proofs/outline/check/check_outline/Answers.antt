@@ -1,5 +1,5 @@
 -- What the proof of `outline::check::check_outline` is asked to show.
-use Rattle.std.proofs.Common.{◌≡◌, length, get_or, Some, None, Err, sym, refl, ap, ◌∙◌, add-one, arith, rules, below_more}
+use Rattle.std.proofs.Common.{◌≡◌, get_or, Some, None, Err, sym, ap, ◌∙◌, add-one, arith, rules, below_more}
 use Rattle.trees.specs.Outlines.{no_record, depth_limit, record_fault, outline_fault, outline_answer}
 use Rattle.trees.specs.Faults.{outline_stops, outline_passes, fine}
 use Rattle.trees.proofs.OutlineOf.{takes_outlines}

@@ -1,5 +1,5 @@
 -- A number below the count is that of a name, and no other is.
-use Rattle.std.proofs.Common.{◌≡◌, sym, arith}
+use Rattle.std.proofs.Common.{sym, arith}
 use Rattle.texts.proofs.Naming.{name_inside, name_outside}
 use Rattle.texts.proofs.pattern.names.Names.name.Goals as goal
 

@@ -1,5 +1,5 @@
 -- A name that is found has its number, and a new one is kept behind the others.
-use Rattle.std.proofs.Common.{◌≡◌, ℕ, ◌-◌, ◌<◌, length, None, Ok, sym, refl, ap, ◌∙◌, arith, rules}
+use Rattle.std.proofs.Common.{◌≡◌, ◌-◌, ◌<◌, length, None, Ok, sym, ap, ◌∙◌, arith, rules}
 use Rattle.texts.specs.PatternText.{number_in}
 use Rattle.texts.specs.PatternSteps.{names_in}
 use Rattle.texts.proofs.Naming.{length_parts, names_more, number_new, names_new, lie_more}
