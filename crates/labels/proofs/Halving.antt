@@ -1,7 +1,7 @@
 -- What the search for a label by halving passes over.
 use Rattle.std.proofs.Common.{◌≡◌, ℕ, zero, suc, ◌+◌, ◌<◌, ◌≤◌, eqb, List, ◌∷◌, Some, sym, ap, ◌∙◌, subst, ⊎_elim, arith}
 use Rattle.std.proofs.lemmas.Bool.{cases_Bool, cases_lt, cases_eq, cond-true, cond-false, eqb-true, eq-eqb}
-use Rattle.std.specs.List.{AllByRecursion as All}
+use Rattle.std.specs.List.{AllByRecursion}
 use Rattle.labels.specs.Entries.{Entry, Rising, name_of}
 use Rattle.labels.specs.Index.{record_at, noted}
 
@@ -23,7 +23,7 @@ passes bs ss l m (suc n) h d = ⊎_elim
     (cases_Bool (eqb e.label l)))
     (cases_eq m (suc n))
 
-all_below : (bs ss : List ℕ) (l n : ℕ) → All (λ (d : Entry). d.label < l) (noted bs ss n) → (k : ℕ) → k < n → label_at bs ss k < l
+all_below : (bs ss : List ℕ) (l n : ℕ) → AllByRecursion (λ (d : Entry). d.label < l) (noted bs ss n) → (k : ℕ) → k < n → label_at bs ss k < l
 all_below bs ss l zero a k h = absurd (omega arith)
 all_below bs ss l (suc n) a k h = ⊎_elim (λ b. all_below bs ss l n a.1 k b) (λ b. let z : n ≡ k = omega arith in subst (λ (i : ℕ). label_at bs ss i < l) z a.0) (cases_lt k n)
 

@@ -1,7 +1,7 @@
 -- The name that is answered stands beside its label in the book.
 use Rattle.std.proofs.Common.{◌≡◌, ℕ, suc, eqb, List, [], ◌∷◌, is_some, is_ok, Some, None, Ok, Err, Option, Result, sym, refl, ap, ◌∙◌, inl, inr, ⊎_elim, arith}
 use Rattle.std.proofs.lemmas.Bool.{cases_Bool, cond-true, cond-false, eqb-true, eqb-false, true≢false}
-use Rattle.std.specs.List.{ContainsAt as Has, AllByRecursion as All}
+use Rattle.std.specs.List.{ContainsAt, AllByRecursion}
 use Rattle.refusals.specs.declared.Cause.TheVariants.{UnknownName}
 use Rattle.refusals.specs.declared.Layer.TheVariants.{Book}
 use Rattle.refusals.specs.declared.Refusal.{Refusal}
@@ -14,10 +14,10 @@ use Rattle.labels.proofs.Judging.{Outcome, outcome, no_book}
 abbrev entry : ℕ → List ℕ → Entry
 entry l n = record { label = l; name = n }
 
-has_more : (e x : Entry) (es : List Entry) → Has es x → Has (e ∷ es) x
+has_more : (e x : Entry) (es : List Entry) → ContainsAt es x → ContainsAt (e ∷ es) x
 has_more e x es (k, h, a) = (suc k, omega arith, a)
 
-name_found : (es : List Entry) (l : ℕ) (n : List ℕ) → name_of es l ≡ Some n → Has es (entry l n)
+name_found : (es : List Entry) (l : ℕ) (n : List ℕ) → name_of es l ≡ Some n → ContainsAt es (entry l n)
 name_found [] l n h = absurd (true≢false (ap is_some (sym h)))
 name_found (e ∷ es) l n h = ⊎_elim
     (λ t.
@@ -28,7 +28,7 @@ name_found (e ∷ es) l n h = ⊎_elim
     (λ f. has_more e (entry l n) es (name_found es l n (sym (cond-false (eqb e.label l) (Some e.name) (name_of es l) f) ∙ h)))
     (cases_Bool (eqb e.label l))
 
-name_missing : (es : List Entry) (l : ℕ) → name_of es l ≡ None → All (λ (e : Entry). e.label ≡ l → ⊥) es
+name_missing : (es : List Entry) (l : ℕ) → name_of es l ≡ None → AllByRecursion (λ (e : Entry). e.label ≡ l → ⊥) es
 name_missing [] l h = tt
 name_missing (e ∷ es) l h = ⊎_elim
     (λ t. absurd (true≢false (ap is_some (sym (cond-true (eqb e.label l) (Some e.name) (name_of es l) t) ∙ h))))

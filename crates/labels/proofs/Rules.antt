@@ -2,7 +2,7 @@
 use Rattle.std.proofs.Common.{◌≡◌, ℕ, ◌<◌, ◌≤◌, true, false, not, eqb, ltb, leb, List, [], ◌∷◌, length, is_some, sym, refl, ap, ◌∙◌, arith}
 use Rattle.std.proofs.lemmas.Bool.{true≢false, and_parts, and_from, ltb-true, lt-ltb, leb-true, le-leb, not-true, not-false, not_from_false, not_from_true, eqb-false, ne_eqb, ltb-false, le-ltb, or_parts, or_from}
 use Rattle.std.proofs.ByRecursion.{All-weaker}
-use Rattle.std.specs.List.{AllByRecursion as All}
+use Rattle.std.specs.List.{AllByRecursion}
 use Rattle.labels.specs.Entries.{Entry, Rising, name_byte, all_name_bytes, good_name, label_of, above_last, bad_label, bad_name}
 use Rattle.labels.specs.Laws.{GoodName, MayFollow, IsBook, empty, more}
 use Rattle.labels.proofs.Chains.{other_name, same_name}
@@ -20,11 +20,11 @@ byte_from b h =
 byte_to : (b : ℕ) → Byte b → name_byte b ≡ true
 byte_to b h = and_from (leb 33 b) _ (le-leb 33 b h.0) (and_from (leb b 126) (not (eqb b 39)) (le-leb b 126 h.1) (not_from_false (eqb b 39) (ne_eqb b 39 h.2)))
 
-bytes_from : (n : List ℕ) → all_name_bytes n ≡ true → All Byte n
+bytes_from : (n : List ℕ) → all_name_bytes n ≡ true → AllByRecursion Byte n
 bytes_from [] h = tt
 bytes_from (b ∷ n) h = let (x, y) = and_parts (name_byte b) (all_name_bytes n) h in (byte_from b x, bytes_from n y)
 
-bytes_to : (n : List ℕ) → All Byte n → all_name_bytes n ≡ true
+bytes_to : (n : List ℕ) → AllByRecursion Byte n → all_name_bytes n ≡ true
 bytes_to [] h = refl
 bytes_to (b ∷ n) h = and_from (name_byte b) (all_name_bytes n) (byte_to b h.0) (bytes_to n h.1)
 
@@ -38,13 +38,13 @@ pub good_to : (n : List ℕ) → GoodName n → good_name n ≡ true
 good_to n h = and_from (ltb 0 (length n)) _ (lt-ltb 0 (length n) h.some) (and_from (leb (length n) 64) (all_name_bytes n) (le-leb (length n) 64 h.short) (bytes_to n h.bytes))
 
 -- a name that none of the entries has
-pub new_from : (es : List Entry) (n : List ℕ) → is_some (label_of es n) ≡ false → All (λ (d : Entry). d.name ≡ n → ⊥) es
+pub new_from : (es : List Entry) (n : List ℕ) → is_some (label_of es n) ≡ false → AllByRecursion (λ (d : Entry). d.name ≡ n → ⊥) es
 new_from [] n h = tt
 new_from (e ∷ es) n h =
     let d : e.name ≡ n → ⊥ = λ k. true≢false (sym (ap is_some (same_name e es n k)) ∙ h) in
     (d, new_from es n (sym (ap is_some (other_name e es n d)) ∙ h))
 
-pub new_to : (es : List Entry) (n : List ℕ) → All (λ (d : Entry). d.name ≡ n → ⊥) es → is_some (label_of es n) ≡ false
+pub new_to : (es : List Entry) (n : List ℕ) → AllByRecursion (λ (d : Entry). d.name ≡ n → ⊥) es → is_some (label_of es n) ≡ false
 new_to [] n h = refl
 new_to (e ∷ es) n h = ap is_some (other_name e es n h.0) ∙ new_to es n h.1
 
@@ -53,11 +53,11 @@ book_rising empty = tt
 book_rising (more b f r s) = (f.above, book_rising b)
 
 -- above the last label is above all
-above_from : (es : List Entry) (l : ℕ) → Rising es → above_last es l ≡ true → All (λ (d : Entry). d.label < l) es
+above_from : (es : List Entry) (l : ℕ) → Rising es → above_last es l ≡ true → AllByRecursion (λ (d : Entry). d.label < l) es
 above_from [] l r h = tt
 above_from (e ∷ es) l r h = (ltb-true e.label l h, All-weaker (λ (d : Entry). d.label < e.label) (λ (d : Entry). d.label < l) (λ d k. omega (arith, ltb-true e.label l h)) es r.0)
 
-above_to : (es : List Entry) (l : ℕ) → All (λ (d : Entry). d.label < l) es → above_last es l ≡ true
+above_to : (es : List Entry) (l : ℕ) → AllByRecursion (λ (d : Entry). d.label < l) es → above_last es l ≡ true
 above_to [] l h = refl
 above_to (e ∷ es) l h = lt-ltb e.label l h.0
 

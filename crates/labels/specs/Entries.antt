@@ -1,6 +1,6 @@
 -- The entries of a label book, and the first fault of bytes that are none.
 use Rattle.std.specs.Prelude.{ℕ, zero, suc, ◌+◌, ◌-◌, ◌<◌, Bool, true, cond, not, ◌&&◌, ◌||◌, List, [], ◌∷◌, length, take, drop, is_some, Some, None, Ok, Err, Option, Result, ◌==◌, nat_le, nat_lt}
-use Rattle.std.specs.List.{AllByRecursion as All}
+use Rattle.std.specs.List.{AllByRecursion}
 use Rattle.std.specs.Str.{bytes_eq}
 use Rattle.records.specs.Heads.{length_of, kind_of}
 use Rattle.refusals.specs.declared.Cause.{Cause}
@@ -50,7 +50,7 @@ above_last (e ∷ es) l = nat_lt e.label l
 -- Each label is above all before it.
 abbrev pub Rising : List Entry → Type 0
 Rising [] = Unit {0}
-Rising (e ∷ es) = All (λ d. d.label < e.label) es × Rising es
+Rising (e ∷ es) = AllByRecursion (λ d. d.label < e.label) es × Rising es
 
 -- The entry whose record the bytes begin with.
 abbrev pub first_entry : List ℕ → Entry

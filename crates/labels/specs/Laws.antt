@@ -1,6 +1,6 @@
 -- What it means that bytes are a label book, apart from any way of reading them.
 use Rattle.std.specs.Prelude.{◌≡◌, ℕ, ◌+◌, ◌<◌, ◌≤◌, ◌⊎◌, List, [], ◌∷◌, ◌++◌, length, drop, Some, Ok, Err, Result, ◌≢◌}
-use Rattle.std.specs.List.{ContainsAt as Has, AllByRecursion as All}
+use Rattle.std.specs.List.{ContainsAt, AllByRecursion}
 use Rattle.records.specs.Heads.{length_of, kind_of}
 use Rattle.refusals.specs.declared.Cause.{Cause}
 use Rattle.refusals.specs.declared.Cause.TheVariants.{UnknownName}
@@ -20,15 +20,15 @@ pub record IsRecord (e : Entry) (r : List ℕ) : Type 0 where
 pub record GoodName (n : List ℕ) : Type 0 where
   pub some : 1 ≤ length n
   pub short : length n ≤ 64
-  pub bytes : All (λ b. (33 ≤ b) × (b ≤ 126) × (b ≢ 39)) n
+  pub bytes : AllByRecursion (λ b. (33 ≤ b) × (b ≤ 126) × (b ≢ 39)) n
 
 -- An entry may follow others: there is room, its label is a label and above all of theirs, its name is a name and none of theirs.
 pub record MayFollow (es : List Entry) (e : Entry) : Type 0 where
   pub room : length es < 4096
   pub small : e.label < 32768
-  pub above : All (λ d. d.label < e.label) es
+  pub above : AllByRecursion (λ d. d.label < e.label) es
   pub good : GoodName e.name
-  pub new : All (λ d. d.name ≢ e.name) es
+  pub new : AllByRecursion (λ d. d.name ≢ e.name) es
 
 -- The bytes are the book of these entries, the last entry first: their records one after the other, each of which may follow those before it.
 pub data IsBook : List Entry → List ℕ → Type 0 where
@@ -54,5 +54,5 @@ Judged bs (Err f) = FirstFault bs f
 
 -- What is answered for the name of a label: the name beside that label in the book, or that the label is not in it, or the book's first fault.
 abbrev pub Named : List ℕ → ℕ → Result (List ℕ) Refusal → Type 0
-Named bs l (Ok n) = (es : List Entry) × IsBook es bs × Has es (record { label = l; name = n })
-Named bs l (Err f) = ((es : List Entry) × IsBook es bs × (f ≡ refused UnknownName Book 0 0) × All (λ e. e.label ≢ l) es) ⊎ FirstFault bs f
+Named bs l (Ok n) = (es : List Entry) × IsBook es bs × ContainsAt es (record { label = l; name = n })
+Named bs l (Err f) = ((es : List Entry) × IsBook es bs × (f ≡ refused UnknownName Book 0 0) × AllByRecursion (λ e. e.label ≢ l) es) ⊎ FirstFault bs f

@@ -3,7 +3,7 @@ ghost use Rattle.std.specs.Prelude.{◌≡◌, ◌*◌, ◌<◌, ◌≤◌, Bool
 ghost use Rattle.patterns.specs.Elements.{elements_of};
 ghost use Rattle.trees.specs.Forest.{size_at};
 ghost use Rattle.matching.specs.Rules.{match_at_lem};
-ghost use Rattle.matching.specs.Answers.{steps_of as steps-told};
+ghost use Rattle.matching.specs.Answers.{steps_of as steps_told};
 ghost use Rattle.runs.specs.Session.{up_to_date, rebuild_steps};
 ghost use Rattle.sessions.specs.Looks.{marks_view};
 ghost use Rattle.sessions.specs.Shelves.{shelf_view};
@@ -67,7 +67,7 @@ fn clear(touched: &mut Vec<bool>)
 
 // The steps that a match took.
 fn steps_of(found: Result<Match, Refusal>) -> u32
-    ensures { result ≡ steps-told found }
+    ensures { result ≡ steps_told found }
 {
     match found {
         Ok(found) => found.steps,

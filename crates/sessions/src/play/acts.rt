@@ -1,7 +1,7 @@
 // Calls without a receipt.
 ghost use Rattle.std.specs.Prelude.{◌≡◌, ℕ, List};
 ghost use Rattle.patterns.specs.Elements.{elements_of};
-ghost use Rattle.runs.specs.Session.{undo as to-undo, settle as to-settle, add as to-add, rebuild as to-rebuild, ask, first_finding, bindings as to-bind};
+ghost use Rattle.runs.specs.Session.{undo as to_undo, settle as to_settle, add as to_add, rebuild as to_rebuild, ask, first_finding, bindings as to_bind};
 ghost use Rattle.sessions.specs.Plays.{note_answer, told, wrote_one};
 ghost use Rattle.sessions.specs.View.{view};
 
@@ -11,7 +11,7 @@ use patterns::Pattern;
 use trees::ChangeableTree;
 
 pub(crate) fn play_undo<T: ChangeableTree>(session: &mut Session<T>) -> Note
-    ensures { (o : List (ℕ × ℕ)) → (view T.Meant.meaning session.new, note_answer o result) ≡ told (view T.Meant.meaning session.old) to-undo }
+    ensures { (o : List (ℕ × ℕ)) → (view T.Meant.meaning session.new, note_answer o result) ≡ told (view T.Meant.meaning session.old) to_undo }
 {
     match session.undo() {
         Ok(()) => Note::Done,
@@ -20,7 +20,7 @@ pub(crate) fn play_undo<T: ChangeableTree>(session: &mut Session<T>) -> Note
 }
 
 pub(crate) fn play_settle<T: ChangeableTree>(session: &mut Session<T>) -> Note
-    ensures { (o : List (ℕ × ℕ)) → (view T.Meant.meaning session.new, note_answer o result) ≡ told (view T.Meant.meaning session.old) to-settle }
+    ensures { (o : List (ℕ × ℕ)) → (view T.Meant.meaning session.new, note_answer o result) ≡ told (view T.Meant.meaning session.old) to_settle }
 {
     match session.settle() {
         Ok(clicks) => Note::Number(clicks),
@@ -29,7 +29,7 @@ pub(crate) fn play_settle<T: ChangeableTree>(session: &mut Session<T>) -> Note
 }
 
 pub(crate) fn play_add<T: ChangeableTree>(session: &mut Session<T>, pattern: &Pattern) -> Note
-    ensures { (o : List (ℕ × ℕ)) → (view T.Meant.meaning session.new, note_answer o result) ≡ told (view T.Meant.meaning session.old) (to-add (elements_of pattern.now.row)) }
+    ensures { (o : List (ℕ × ℕ)) → (view T.Meant.meaning session.new, note_answer o result) ≡ told (view T.Meant.meaning session.old) (to_add (elements_of pattern.now.row)) }
 {
     match session.add(pattern) {
         Ok(number) => Note::Number(number),
@@ -38,7 +38,7 @@ pub(crate) fn play_add<T: ChangeableTree>(session: &mut Session<T>, pattern: &Pa
 }
 
 pub(crate) fn play_rebuild<T: ChangeableTree>(session: &mut Session<T>) -> Note
-    ensures { (o : List (ℕ × ℕ)) → (view T.Meant.meaning session.new, note_answer o result) ≡ told (view T.Meant.meaning session.old) to-rebuild }
+    ensures { (o : List (ℕ × ℕ)) → (view T.Meant.meaning session.new, note_answer o result) ≡ told (view T.Meant.meaning session.old) to_rebuild }
 {
     match session.rebuild() {
         Ok(steps) => Note::Steps(steps),
@@ -72,7 +72,7 @@ pub(crate) fn play_bindings<T: ChangeableTree>(
     pattern: usize,
     place: usize,
 ) -> Note
-    ensures { (o : List (ℕ × ℕ)) → (view T.Meant.meaning session.now, note_answer o result) ≡ told (view T.Meant.meaning session.now) (ask (to-bind pattern place)) }
+    ensures { (o : List (ℕ × ℕ)) → (view T.Meant.meaning session.now, note_answer o result) ≡ told (view T.Meant.meaning session.now) (ask (to_bind pattern place)) }
 {
     match session.bindings(pattern, place) {
         Ok(found) => Note::Bound(found),

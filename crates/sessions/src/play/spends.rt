@@ -1,6 +1,6 @@
 // Calls that give, lend or spend a receipt.
 ghost use Rattle.std.specs.Prelude.{◌≡◌, ℕ, List};
-ghost use Rattle.runs.specs.Session.{commit as to-commit, abandon as to-abandon};
+ghost use Rattle.runs.specs.Session.{commit as to_commit, abandon as to_abandon};
 ghost use Rattle.sessions.specs.Plays.{slot_name, table_of, played_one, note_answer, changed_one, spent_one};
 ghost use Rattle.sessions.specs.View.{view};
 
@@ -57,7 +57,7 @@ fn change_with<T: ChangeableTree>(
 
 // Commits a click with the receipt of a slot.
 fn commit_with<T: ChangeableTree>(session: &mut Session<T>, slot: Slot) -> (Slot, Note)
-    ensures { (o : List (ℕ × ℕ)) → (view T.Meant.meaning session.new, slot_name result.0, note_answer o result.1) ≡ spent_one (view T.Meant.meaning session.old) (slot_name slot) to-commit }
+    ensures { (o : List (ℕ × ℕ)) → (view T.Meant.meaning session.new, slot_name result.0, note_answer o result.1) ≡ spent_one (view T.Meant.meaning session.old) (slot_name slot) to_commit }
 {
     match slot {
         Slot::Empty => (Slot::Empty, Note::NoReceipt),
@@ -70,7 +70,7 @@ fn commit_with<T: ChangeableTree>(session: &mut Session<T>, slot: Slot) -> (Slot
 
 // Abandons a click with the receipt of a slot.
 fn abandon_with<T: ChangeableTree>(session: &mut Session<T>, slot: Slot) -> (Slot, Note)
-    ensures { (o : List (ℕ × ℕ)) → (view T.Meant.meaning session.new, slot_name result.0, note_answer o result.1) ≡ spent_one (view T.Meant.meaning session.old) (slot_name slot) to-abandon }
+    ensures { (o : List (ℕ × ℕ)) → (view T.Meant.meaning session.new, slot_name result.0, note_answer o result.1) ≡ spent_one (view T.Meant.meaning session.old) (slot_name slot) to_abandon }
 {
     match slot {
         Slot::Empty => (Slot::Empty, Note::NoReceipt),

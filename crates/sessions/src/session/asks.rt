@@ -1,6 +1,6 @@
 // Questions: the findings of the last rebuild, the first of them, and the bindings of a pattern at a place.
 ghost use Rattle.std.specs.Prelude.{◌≡◌, ◌+◌, ◌<◌, ◌≤◌, ◌++◌, length, take, drop, OnErr};
-ghost use Rattle.runs.specs.Session.{turn, ask, findings as all-findings, first_finding, bindings as to-bind, places as places_of, marked_at, all_found};
+ghost use Rattle.runs.specs.Session.{turn, ask, findings as all_findings, first_finding, bindings as to_bind, places as places_of, marked_at, all_found};
 ghost use Rattle.sessions.specs.Firsts.{First};
 ghost use Rattle.sessions.specs.View.{view, wrote_answer, found_answer, bound_answer};
 
@@ -88,7 +88,7 @@ impl<T: ChangeableTree> Session<T> {
 
     /// Writes all findings, by place and then by pattern, to the start of a slice, and answers how many there are.
     pub fn findings(&self, out: &mut [(usize, usize)]) -> Result<usize, Refusal>
-        ensures turns { (view T.Meant.meaning self.now, wrote_answer out.new result) ≡ turn (view T.Meant.meaning self.now) (ask (all-findings out.old)) }
+        ensures turns { (view T.Meant.meaning self.now, wrote_answer out.new result) ≡ turn (view T.Meant.meaning self.now) (ask (all_findings out.old)) }
         ensures same { OnErr result (out.new ≡ out.old) }
     {
         if self.is_open() {
@@ -123,7 +123,7 @@ impl<T: ChangeableTree> Session<T> {
 
     /// The bindings of a pattern at a place, and the steps that the match took.
     pub fn bindings(&self, pattern: usize, place: usize) -> Result<Match, Refusal>
-        ensures { (view T.Meant.meaning self.now, bound_answer result) ≡ turn (view T.Meant.meaning self.now) (ask (to-bind pattern place)) }
+        ensures { (view T.Meant.meaning self.now, bound_answer result) ≡ turn (view T.Meant.meaning self.now) (ask (to_bind pattern place)) }
     {
         if self.is_open() {
             return Err(refusal(Cause::ClickOpen));

@@ -1,7 +1,7 @@
 // Clicks: opened, changed, committed, abandoned, undone and settled; and patterns, added.
 ghost use Rattle.std.specs.Prelude.{◌≡◌, ◌<◌, [], ◌∷◌, length, drop, IfErr, None as Nothing, OnErr, slice_index_or};
 ghost use Rattle.patterns.specs.Elements.{elements_of};
-ghost use Rattle.runs.specs.Session.{turn, open_click, change as to-change, commit as to-commit, abandon as to-abandon, undo as to-undo, settle as to-settle, add as to-add, is_open, wrong, noting, putting};
+ghost use Rattle.runs.specs.Session.{turn, open_click, change as to_change, commit as to_commit, abandon as to_abandon, undo as to_undo, settle as to_settle, add as to_add, is_open, wrong, noting, putting};
 ghost use Rattle.sessions.specs.Journals.{clicks_of};
 ghost use Rattle.sessions.specs.View.{view, receipt_answer, done_answer, spent_answer, number_answer};
 
@@ -60,7 +60,7 @@ impl<T: ChangeableTree> Session<T> {
 
     /// Puts a label at a place, and notes the label that stood there.
     pub fn change(&mut self, receipt: &Receipt, place: usize, label: u16) -> Result<(), Refusal>
-        ensures turns { (view T.Meant.meaning self.new, done_answer result) ≡ turn (view T.Meant.meaning self.old) (to-change receipt.now.session place label) }
+        ensures turns { (view T.Meant.meaning self.new, done_answer result) ≡ turn (view T.Meant.meaning self.old) (to_change receipt.now.session place label) }
         ensures same { OnErr result (self.new ≡ self.old) }
     {
         if self.is_wrong(receipt) {
@@ -82,7 +82,7 @@ impl<T: ChangeableTree> Session<T> {
 
     /// Ends the open click, which can be undone from now on. A refusal gives the receipt back.
     pub fn commit(&mut self, receipt: Receipt) -> Result<(), (Receipt, Refusal)>
-        ensures turns { (view T.Meant.meaning self.new, spent_answer result) ≡ turn (view T.Meant.meaning self.old) (to-commit receipt.session) }
+        ensures turns { (view T.Meant.meaning self.new, spent_answer result) ≡ turn (view T.Meant.meaning self.old) (to_commit receipt.session) }
         ensures same { IfErr result (λ e. (self.new ≡ self.old) × (e.0 ≡ receipt)) }
     {
         if self.is_wrong(&receipt) {
@@ -95,7 +95,7 @@ impl<T: ChangeableTree> Session<T> {
 
     /// Puts the labels of the open click back, the last first, and forgets the click. A refusal gives the receipt back.
     pub fn abandon(&mut self, receipt: Receipt) -> Result<(), (Receipt, Refusal)>
-        ensures turns { (view T.Meant.meaning self.new, spent_answer result) ≡ turn (view T.Meant.meaning self.old) (to-abandon receipt.session) }
+        ensures turns { (view T.Meant.meaning self.new, spent_answer result) ≡ turn (view T.Meant.meaning self.old) (to_abandon receipt.session) }
         ensures same { IfErr result (λ e. (self.new ≡ self.old) × (e.0 ≡ receipt)) }
     {
         if self.is_wrong(&receipt) {
@@ -108,7 +108,7 @@ impl<T: ChangeableTree> Session<T> {
 
     /// Puts the labels of the last committed click back, the last first, and forgets the click.
     pub fn undo(&mut self) -> Result<(), Refusal>
-        ensures turns { (view T.Meant.meaning self.new, done_answer result) ≡ turn (view T.Meant.meaning self.old) to-undo }
+        ensures turns { (view T.Meant.meaning self.new, done_answer result) ≡ turn (view T.Meant.meaning self.old) to_undo }
         ensures same { OnErr result (self.new ≡ self.old) }
     {
         if self.is_open() {
@@ -123,7 +123,7 @@ impl<T: ChangeableTree> Session<T> {
 
     /// Forgets all clicks, and answers how many there were.
     pub fn settle(&mut self) -> Result<usize, Refusal>
-        ensures turns { (view T.Meant.meaning self.new, number_answer result) ≡ turn (view T.Meant.meaning self.old) to-settle }
+        ensures turns { (view T.Meant.meaning self.new, number_answer result) ≡ turn (view T.Meant.meaning self.old) to_settle }
         ensures same { OnErr result (self.new ≡ self.old) }
     {
         if self.is_open() {
@@ -136,7 +136,7 @@ impl<T: ChangeableTree> Session<T> {
 
     /// Adds a pattern behind the others, and answers its number.
     pub fn add(&mut self, pattern: &Pattern) -> Result<usize, Refusal>
-        ensures turns { (view T.Meant.meaning self.new, number_answer result) ≡ turn (view T.Meant.meaning self.old) (to-add (elements_of pattern.now.row)) }
+        ensures turns { (view T.Meant.meaning self.new, number_answer result) ≡ turn (view T.Meant.meaning self.old) (to_add (elements_of pattern.now.row)) }
         ensures same { OnErr result (self.new ≡ self.old) }
     {
         if self.is_open() {

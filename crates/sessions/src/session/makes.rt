@@ -1,6 +1,6 @@
 // How a session is made, what it is over, and how it ends.
 ghost use Rattle.std.specs.Prelude.{◌≡◌, ◌≤◌, false, [], IfOk, MatchResult};
-ghost use Rattle.refusals.specs.Numbers.{refused as refusal-of};
+ghost use Rattle.refusals.specs.Numbers.{refused as refusal_of};
 ghost use Rattle.refusals.specs.declared.Layer.TheVariants.{Session as SessionLayer};
 ghost use Rattle.runs.specs.Session.{making, no_marks, refused};
 ghost use Rattle.sessions.specs.Journals.{clicks_of};
@@ -18,7 +18,7 @@ use trees::ChangeableTree;
 
 // The refusal of a session.
 pub(crate) fn refusal(cause: Cause) -> Refusal
-    ensures { result ≡ refusal-of cause SessionLayer 0 0 }
+    ensures { result ≡ refusal_of cause SessionLayer 0 0 }
 {
     Refusal::at(cause, Layer::Session, 0)
 }
