@@ -53,8 +53,10 @@ fn play_on<T: ChangeableTree>(
     calls: &[Call],
     notes: &mut [Note],
 ) -> Hands
-    ensures states { view T.Meant.meaning session.new ≡ (stands (view T.Meant.meaning session.old) (table_of hands out.old) calls.now (playable calls.now notes.old)).state }
-    ensures noted { Noted (view T.Meant.meaning session.old) (table_of hands out.old) calls.now notes.old notes.new (table_of result out.new) }
+    ensures states { view T.Meant.meaning session.new ≡ (stands (view T.Meant.meaning session.old) (table_of hands out.old) calls.now (min (length calls.now) (length notes.old))).state }
+    ensures tables { table_of result out.new ≡ (stands (view T.Meant.meaning session.old) (table_of hands out.old) calls.now (min (length calls.now) (length notes.old))).table }
+    ensures answers { (k : ℕ) → k < min (length calls.now) (length notes.old) → note_answer [] (slice_index_or notes.new k Note.NoReceipt) ≡ noted (stands (view T.Meant.meaning session.old) (table_of hands out.old) calls.now (suc k)).answer }
+    ensures rest { (k : ℕ) → min (length calls.now) (length notes.old) ≤ k → slice_index_or notes.new k Note.NoReceipt ≡ slice_index_or notes.old k Note.NoReceipt }
 {
     let count = calls.len().min(notes.len());
     let mut hands = hands;

@@ -42,9 +42,7 @@ returns g c =
     let e : c.loop-i.i ≡ min (length c.args.calls.now) (length c.args.notes.now) = omega (arith, c.min-count.ensures, c.loop-i.auto.i-end, c.loop-i-test.false) in
     record {
       states = c.loop-i.invariant.0 ∙ ap (λ n. (stands v t c.args.calls.now n).state) e;
-      noted = record {
-        table = c.loop-i.invariant.1 ∙ ap (λ n. (stands v t c.args.calls.now n).table) e;
-        answers = λ k h. c.loop-i.invariant.2 k (omega (arith, e));
-        rest = λ k h. c.loop-i.invariant.3 k (omega (arith, e));
-      };
+      tables = c.loop-i.invariant.1 ∙ ap (λ n. (stands v t c.args.calls.now n).table) e;
+      answers = λ k h. c.loop-i.invariant.2 k (omega (arith, e));
+      rest = λ k h. c.loop-i.invariant.3 k (omega (arith, e));
     }

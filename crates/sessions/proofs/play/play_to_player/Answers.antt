@@ -11,7 +11,7 @@ pub returns-in-Ok : goal.returns-in-Ok
 returns-in-Ok g c =
     let m : Forest = g.T.Meant.meaning c.args.tree in
     let t : Table = first_table c.args.foreign.session c.args.out.now in
-    let n : Noted (making m c.args.name) t c.args.calls.now c.args.notes.now c.play_on-hands.new.notes (table_of c.play_on-hands.result c.play_on-hands.new.out) = noted_from m c.args.name t c.args.calls.now c.args.notes.now c.play_on-hands.new.notes (table_of c.play_on-hands.result c.play_on-hands.new.out) c.in-Ok.ensures.begun (c.with_foreign-hands.ensures c.args.out.now) c.play_on-hands.ensures.noted in
+    let n : Noted (making m c.args.name) t c.args.calls.now c.args.notes.now c.play_on-hands.new.notes (table_of c.play_on-hands.result c.play_on-hands.new.out) = noted_from m c.args.name t c.args.calls.now c.args.notes.now c.play_on-hands.new.notes (table_of c.play_on-hands.result c.play_on-hands.new.out) c.in-Ok.ensures.begun (c.with_foreign-hands.ensures c.args.out.now) (record { table = c.play_on-hands.ensures.tables; answers = c.play_on-hands.ensures.answers; rest = c.play_on-hands.ensures.rest }) in
     record {
       played = played (reached_from m c.args.name t c.args.calls.now c.args.notes.now (g.T.Meant.lawful c.args.tree) c.in-Ok.ensures.begun (c.with_foreign-hands.ensures c.args.out.now) c.play_on-hands.ensures.states);
       noted = n;
