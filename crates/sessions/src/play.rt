@@ -156,13 +156,9 @@ pub fn play_to_player<T: ChangeableTree>(
     ensures foreign { IfOk result (λ p. Left p.hands.foreign foreign.session) }
     ensures law { EveryRun }
 {
-    match Session::new(heap, tree, name) {
-        Ok(mut session) => {
-            let hands = with_foreign(foreign);
-            let hands = play_on(&mut session, hands, out, calls, notes);
-            Ok(Player { session, hands })
-        }
-        Err((tree, refused)) => Err((tree, foreign, refused)),
+    match play(heap, tree, name, foreign, out, calls, notes) {
+        Ok((session, hands)) => Ok(Player { session, hands }),
+        Err(back) => Err(back),
     }
 }
 
