@@ -2,6 +2,7 @@
 #![tactic(auto)]
 
 pub mod check;
+pub mod limits;
 pub mod pattern;
 pub mod row;
 
