@@ -1,2 +1,3 @@
--- Refusals and their numbers.
+-- Refusals, their numbers and their words.
 pub mod Numbers
+pub mod Words

@@ -1,8 +1,12 @@
 // What a call answers when it refuses: the cause, the layer that found it, the byte and the steps.
 #![tactic(auto)]
 
-ghost use Rattle.std.specs.Prelude.{◌≡◌};
+ghost use Rattle.std.specs.Prelude.{◌≡◌, Some};
 ghost use Rattle.refusals.specs.Numbers.{cause_number, layer_number, numbers, refused};
+ghost use Rattle.refusals.specs.Words.{cause_words, refusal_words};
+
+use std::error::Error;
+use std::fmt;
 
 /// Why a call was refused. The number of each case is part of the format of a refusal.
 #[derive(Clone, Copy, PartialEq, Eq, Debug)]
@@ -91,6 +95,52 @@ impl Refusal {
         )
     }
 }
+
+/// The cause in words.
+impl fmt::Display for Cause {
+    ghost output = { λ c. Some (cause_words c) };
+
+    fn fmt<W: fmt::Write>(&self, f: &mut fmt::Formatter<W>) -> fmt::Result {
+        f.write_str(match self {
+            Cause::WrongClick => "wrong click",
+            Cause::ClickOpen => "click open",
+            Cause::Stale => "stale",
+            Cause::NoSuchPattern => "no such pattern",
+            Cause::NoSuchPlace => "no such place",
+            Cause::ShelfFull => "shelf full",
+            Cause::JournalFull => "journal full",
+            Cause::NothingToUndo => "nothing to undo",
+            Cause::BadLength => "bad length",
+            Cause::BadLabel => "bad label",
+            Cause::BadName => "bad name",
+            Cause::BadText => "bad text",
+            Cause::UnknownName => "unknown name",
+            Cause::Unpaired => "unpaired",
+            Cause::OneTree => "one tree",
+            Cause::TooMany => "too many",
+            Cause::NoRoom => "no room",
+            Cause::NoMatch => "no match",
+            Cause::NoMemory => "no memory",
+        })
+    }
+}
+
+/// The cause by number and in words, and then layer, byte and steps.
+impl fmt::Display for Refusal {
+    ghost output = { λ r. Some (refusal_words r) };
+
+    fn fmt<W: fmt::Write>(&self, f: &mut fmt::Formatter<W>) -> fmt::Result {
+        let number = self.cause.number();
+        let layer = self.layer.number();
+        write!(
+            f,
+            "refused {number} {} (layer {layer}, byte {}, steps {})",
+            self.cause, self.byte, self.steps
+        )
+    }
+}
+
+impl Error for Refusal {}
 
 #[cfg(test)]
 mod tests {
