@@ -1,90 +1,92 @@
 // The commands of a script, as a line has them.
-use crate::operands::{read_number, split_word};
+use crate::failure::Failure;
+use crate::operands::{read_half, read_hex, read_number, read_records, split_word};
+use std::alloc::Global;
+use trees::outline::Record;
 
-/// A line that is a command, with its operands; hexadecimal bytes and records are still to be read.
-#[derive(Clone, Copy)]
+/// A line that is a command, with its operands.
+#[derive(Drop)]
 pub(crate) enum Command<'a> {
-    Book(&'a [u8]),
-    Label(u32, &'a [u8]),
+    Book(Vec<u8>),
+    Label(u16, &'a [u8]),
     CheckBook,
-    Name(u32),
-    Image(&'a [u8]),
-    Outline(&'a [u8]),
+    Name(u16),
+    Image(Vec<u8>),
+    Outline(Vec<Record>),
     Tree(&'a [u8]),
-    TreeHex(&'a [u8]),
-    CheckImage(&'a [u8]),
-    CheckOutline(&'a [u8]),
+    TreeHex(Vec<u8>),
+    CheckImage(Vec<u8>),
+    CheckOutline(Vec<Record>),
     Show,
     Write,
     Room(u32),
     Pattern(&'a [u8]),
-    PatternHex(&'a [u8]),
+    PatternHex(Vec<u8>),
     Match(u32, &'a [u8]),
     Find(&'a [u8]),
 }
 
 impl<'a> Command<'a> {
     /// The command of a line, if its words fit one.
-    pub(crate) fn read(line: &'a [u8]) -> Option<Command<'a>> {
+    pub(crate) fn read(heap: Global, line: &'a [u8]) -> Result<Command<'a>, Failure> {
         let (word, behind) = split_word(line);
-        let rest = behind.unwrap_or(b"");
-        if let Some(command) = book_command(word, rest) {
-            return Some(command);
-        }
-        if let Some(command) = tree_command(word, rest) {
-            return Some(command);
-        }
-        search_command(word, rest)
+        book_command(heap, word, behind.unwrap_or(b""))
     }
 }
 
-fn book_command<'a>(word: &[u8], rest: &'a [u8]) -> Option<Command<'a>> {
+fn book_command<'a>(heap: Global, word: &[u8], rest: &'a [u8]) -> Result<Command<'a>, Failure> {
     match word {
-        b"book" => Some(Command::Book(rest)),
+        b"book" => Ok(Command::Book(read_hex(heap, rest)?)),
         b"label" => read_label(rest),
         b"check-book" => alone(rest, Command::CheckBook),
-        b"name" => Some(Command::Name(read_number(rest)?)),
-        _ => None,
+        b"name" => Ok(Command::Name(read_half(rest).ok_or(Failure::NotUnderstood)?)),
+        _ => tree_command(heap, word, rest),
     }
 }
 
-fn tree_command<'a>(word: &[u8], rest: &'a [u8]) -> Option<Command<'a>> {
+fn tree_command<'a>(heap: Global, word: &[u8], rest: &'a [u8]) -> Result<Command<'a>, Failure> {
     match word {
-        b"image" => Some(Command::Image(rest)),
-        b"outline" => Some(Command::Outline(rest)),
-        b"tree" => Some(Command::Tree(rest)),
-        b"tree-hex" => Some(Command::TreeHex(rest)),
-        b"check-image" => Some(Command::CheckImage(rest)),
-        b"check-outline" => Some(Command::CheckOutline(rest)),
+        b"image" => Ok(Command::Image(read_hex(heap, rest)?)),
+        b"outline" => Ok(Command::Outline(read_records(heap, rest)?)),
+        b"tree" => Ok(Command::Tree(rest)),
+        b"tree-hex" => Ok(Command::TreeHex(read_hex(heap, rest)?)),
+        b"check-image" => Ok(Command::CheckImage(read_hex(heap, rest)?)),
+        b"check-outline" => Ok(Command::CheckOutline(read_records(heap, rest)?)),
         b"show" => alone(rest, Command::Show),
         b"write" => alone(rest, Command::Write),
-        b"room" => Some(Command::Room(read_number(rest)?)),
-        _ => None,
+        b"room" => Ok(Command::Room(read_number(rest).ok_or(Failure::NotUnderstood)?)),
+        _ => search_command(heap, word, rest),
     }
 }
 
-fn search_command<'a>(word: &[u8], rest: &'a [u8]) -> Option<Command<'a>> {
+fn search_command<'a>(heap: Global, word: &[u8], rest: &'a [u8]) -> Result<Command<'a>, Failure> {
     match word {
-        b"pattern" => Some(Command::Pattern(rest)),
-        b"pattern-hex" => Some(Command::PatternHex(rest)),
+        b"pattern" => Ok(Command::Pattern(rest)),
+        b"pattern-hex" => Ok(Command::PatternHex(read_hex(heap, rest)?)),
         b"match" => read_match(rest),
-        b"find" => Some(Command::Find(rest)),
-        _ => None,
+        b"find" => Ok(Command::Find(rest)),
+        _ => Err(Failure::NotUnderstood),
     }
 }
 
 // A command with no operand.
-fn alone<'a>(rest: &[u8], command: Command<'a>) -> Option<Command<'a>> {
-    if rest.is_empty() { Some(command) } else { None }
+fn alone<'a>(rest: &[u8], command: Command<'a>) -> Result<Command<'a>, Failure> {
+    if rest.is_empty() {
+        Ok(command)
+    } else {
+        Err(Failure::NotUnderstood)
+    }
 }
 
-fn read_label(rest: &[u8]) -> Option<Command<'_>> {
+fn read_label(rest: &[u8]) -> Result<Command<'_>, Failure> {
     let (number, name) = split_word(rest);
-    Some(Command::Label(read_number(number)?, name?))
+    let label = read_half(number).ok_or(Failure::NotUnderstood)?;
+    Ok(Command::Label(label, name.ok_or(Failure::NotUnderstood)?))
 }
 
 // A place and a text, which may be empty.
-fn read_match(rest: &[u8]) -> Option<Command<'_>> {
+fn read_match(rest: &[u8]) -> Result<Command<'_>, Failure> {
     let (number, text) = split_word(rest);
-    Some(Command::Match(read_number(number)?, text.unwrap_or(b"")))
+    let place = read_number(number).ok_or(Failure::NotUnderstood)?;
+    Ok(Command::Match(place, text.unwrap_or(b"")))
 }

@@ -2,29 +2,23 @@
 mod books;
 mod designs;
 mod searches;
+mod store;
 
 use crate::command::Command;
-use crate::print::print_count;
-use crate::search::print_pattern;
+use crate::failure::Failure;
 use std::alloc::Global;
 use std::io;
 use std::io::Write;
-use trees::outline::Record;
-
-/// The records of the tree of a script.
-#[derive(Drop)]
-pub(crate) enum Store {
-    Nothing,
-    Image(Vec<u8>),
-    Outline(Vec<Record>),
-}
+use store::Store;
+use trees::image::check_image;
+use trees::outline::check_outline;
 
 /// The book and the tree of a script, and the room for the next command that writes.
 #[derive(Drop)]
 pub(crate) struct Desk {
     heap: Global,
     book: Vec<u8>,
-    store: Store,
+    store: Option<Store>,
     room: Option<u32>,
 }
 
@@ -33,12 +27,12 @@ impl Desk {
         Desk {
             heap,
             book: Vec::new(heap),
-            store: Store::Nothing,
+            store: None,
             room: None,
         }
     }
 
-    /// Prints a line and its answer, and says whether it was understood.
+    /// Writes a line and its answer, and says whether it was understood.
     pub(crate) fn obey<W: Write>(&mut self, line: &[u8], out: &mut W) -> io::Result<bool> {
         out.write_all(b"> ")?;
         out.write_all(line)?;
@@ -46,39 +40,49 @@ impl Desk {
         if line.starts_with(b"#") {
             return Ok(true);
         }
-        let understood = match Command::read(line) {
-            Some(command) => self.act(command, out)?,
-            None => false,
-        };
-        if !understood {
-            out.write_all(b"not understood\n")?;
+        match self.answer(line, out) {
+            Ok(()) => Ok(true),
+            Err(Failure::Output(error)) => Err(error),
+            Err(Failure::Memory(error)) => Err(error.into()),
+            Err(failure) => {
+                writeln!(out, "{failure}")?;
+                Ok(!matches!(failure, Failure::NotUnderstood))
+            }
         }
-        Ok(understood)
     }
 
-    fn act<W: Write>(&mut self, command: Command<'_>, out: &mut W) -> io::Result<bool> {
-        match command {
-            Command::Book(hex) => return self.set_book(hex, out),
-            Command::Label(number, name) => self.add_label(number, name, out)?,
-            Command::CheckBook => print_count(out, labels::check(self.book.as_slice()), "records")?,
-            Command::Name(number) => self.print_name(number, out)?,
-            Command::Image(hex) => return self.set_image(hex, out),
-            Command::Outline(text) => return self.set_outline(text, out),
+    fn answer<W: Write>(&mut self, line: &[u8], out: &mut W) -> Result<(), Failure> {
+        match Command::read(self.heap, line)? {
+            Command::Book(bytes) => self.set_book(bytes, out)?,
+            Command::Label(label, name) => self.add_label(label, name, out)?,
+            Command::CheckBook => {
+                let records = labels::check(self.book.as_slice())?;
+                writeln!(out, "ok {records} records")?;
+            }
+            Command::Name(label) => self.print_name(label, out)?,
+            Command::Image(bytes) => self.set_store(Store::Image(bytes), out)?,
+            Command::Outline(records) => self.set_store(Store::Outline(records), out)?,
             Command::Tree(text) => self.set_tree(text, out)?,
-            Command::TreeHex(hex) => return self.set_tree_hex(hex, out),
-            Command::CheckImage(hex) => return self.check_image(hex, out),
-            Command::CheckOutline(text) => return self.check_outline(text, out),
+            Command::TreeHex(text) => self.set_tree(text.as_slice(), out)?,
+            Command::CheckImage(bytes) => {
+                let places = check_image(bytes.as_slice())?;
+                writeln!(out, "ok {places} places")?;
+            }
+            Command::CheckOutline(records) => {
+                let places = check_outline(records.as_slice())?;
+                writeln!(out, "ok {places} places")?;
+            }
             Command::Show => self.show(out)?,
             Command::Write => self.write(out)?,
             Command::Room(room) => {
                 self.room = Some(room);
                 writeln!(out, "ok room {room}")?;
             }
-            Command::Pattern(text) => print_pattern(out, self.book.as_slice(), text)?,
-            Command::PatternHex(hex) => return self.pattern_hex(hex, out),
+            Command::Pattern(text) => self.print_pattern(text, out)?,
+            Command::PatternHex(text) => self.print_pattern(text.as_slice(), out)?,
             Command::Match(place, text) => self.match_place(place as usize, text, out)?,
             Command::Find(text) => self.find(text, out)?,
         }
-        Ok(true)
+        Ok(())
     }
 }

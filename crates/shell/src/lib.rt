@@ -2,13 +2,14 @@
 #![tactic(auto)]
 
 use desk::Desk;
-use lines::Lines;
+use lines::{Lines, is_blank};
 use std::alloc::Global;
 use std::io;
 use std::io::Write;
 
 mod command;
 mod desk;
+mod failure;
 mod lines;
 mod operands;
 mod print;
@@ -16,12 +17,11 @@ mod search;
 
 /// Obeys a script line by line, writes what it answers, and says whether every line was understood.
 pub fn run<W: Write>(heap: Global, script: &[u8], out: &mut W) -> io::Result<bool> {
-    let mut lines = Lines::new(script);
     let mut desk = Desk::new(heap);
     let mut understood = true;
-    while let Some(line) = lines.next_line() {
-        if !lines::is_blank(line) && !desk.obey(line, out)? {
-            understood = false;
+    for line in Lines::new(script) {
+        if !is_blank(line) {
+            understood &= desk.obey(line, out)?;
         }
     }
     Ok(understood)

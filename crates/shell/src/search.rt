@@ -1,127 +1,101 @@
-// Patterns, matches and findings as text, over a tree of any make.
-use crate::print::print_refusal;
+// A pattern text, and what it finds in trees of any make.
+use crate::failure::Failure;
 use matching::{Match, match_at};
 use patterns::Pattern;
+use patterns::limits::MAX_VARIABLES;
 use std::alloc::{AllocError, Global};
 use std::io;
 use std::io::Write;
 use texts::pattern::{read_pattern, variable_name};
 use trees::Tree;
 
-// How many variables a pattern can have.
-const VARIABLES: usize = 16;
-
-/// Writes how many elements a pattern text has, and the names of its variables.
-pub(crate) fn print_pattern<W: Write>(out: &mut W, book: &[u8], text: &[u8]) -> io::Result<()> {
-    match read_pattern(book, text) {
-        Ok(pattern) => {
-            let elements = pattern.count();
-            print_variables(out, elements, text)
-        }
-        Err(refusal) => print_refusal(out, refusal),
-    }
+/// A pattern, and the names of its variables.
+#[derive(Drop)]
+pub(crate) struct Search<'a> {
+    pattern: Pattern,
+    names: Vec<&'a [u8]>,
 }
 
-fn print_variables<W: Write>(out: &mut W, elements: usize, text: &[u8]) -> io::Result<()> {
-    let variables = count_variables(text);
-    write!(out, "ok {elements} elements, {variables} variables")?;
-    for number in 0..variables {
-        if number == 0 {
-            out.write_all(b":")?;
-        }
-        out.write_all(b" ")?;
-        out.write_all(variable_name(text, number).unwrap_or(b""))?;
+impl<'a> Search<'a> {
+    /// Reads a pattern text by a label book.
+    pub(crate) fn read(heap: Global, book: &[u8], text: &'a [u8]) -> Result<Search<'a>, Failure> {
+        let pattern = read_pattern(book, text)?;
+        let names = (0..MAX_VARIABLES)
+            .map_while(|number| variable_name(text, number))
+            .collect(heap)?;
+        Ok(Search { pattern, names })
     }
-    out.write_all(b"\n")
-}
 
-fn count_variables(text: &[u8]) -> usize {
-    for number in 0..VARIABLES {
-        if variable_name(text, number).is_none() {
-            return number;
+    /// Writes how many elements the pattern has, and the names of its variables.
+    pub(crate) fn print<W: Write>(&self, out: &mut W) -> io::Result<()> {
+        let elements = self.pattern.count();
+        let variables = self.names.len();
+        write!(out, "ok {elements} elements, {variables} variables")?;
+        for (number, name) in self.names.iter().enumerate() {
+            out.write_all(if number == 0 { b": " } else { b" " })?;
+            out.write_all(name)?;
         }
+        out.write_all(b"\n")
     }
-    VARIABLES
-}
 
-// Writes the place of each variable that has one.
-fn print_bindings<W: Write>(out: &mut W, text: &[u8], found: &Match) -> io::Result<()> {
-    let mut some = false;
-    for number in 0..VARIABLES {
-        if let Some(place) = found.places[number] {
-            if some {
+    // Writes the place of each variable that has one.
+    fn print_bindings<W: Write>(&self, out: &mut W, found: &Match) -> io::Result<()> {
+        let mut bound = self
+            .names
+            .iter()
+            .zip(found.places)
+            .filter_map(|(name, place)| Some((name, place?)))
+            .peekable();
+        if bound.peek().is_none() {
+            return out.write_all(b"no variable");
+        }
+        for (number, (name, place)) in bound.enumerate() {
+            if number > 0 {
                 out.write_all(b", ")?;
             }
-            out.write_all(variable_name(text, number).unwrap_or(b""))?;
+            out.write_all(name)?;
             write!(out, " {place}")?;
-            some = true;
         }
+        Ok(())
     }
-    if !some {
-        out.write_all(b"no variable")?;
-    }
-    Ok(())
-}
 
-/// Writes the bindings of a pattern text at a place, and the steps.
-pub(crate) fn print_match<T: Tree, W: Write>(
-    out: &mut W,
-    tree: &T,
-    book: &[u8],
-    place: usize,
-    text: &[u8],
-) -> io::Result<()> {
-    match read_pattern(book, text) {
-        Ok(pattern) => match match_at(tree, &pattern, place) {
-            Ok(found) => {
-                out.write_all(b"ok ")?;
-                print_bindings(out, text, &found)?;
-                let steps = found.steps;
-                writeln!(out, " in {steps} steps")
-            }
-            Err(refusal) => print_refusal(out, refusal),
-        },
-        Err(refusal) => print_refusal(out, refusal),
+    /// Writes the bindings of a match at a place, and the steps.
+    pub(crate) fn print_match<T: Tree, W: Write>(
+        &self,
+        out: &mut W,
+        tree: &T,
+        place: usize,
+    ) -> Result<(), Failure> {
+        let found = match_at(tree, &self.pattern, place)?;
+        out.write_all(b"ok ")?;
+        self.print_bindings(out, &found)?;
+        let steps = found.steps;
+        writeln!(out, " in {steps} steps")?;
+        Ok(())
     }
-}
 
-// The places of a tree at which a pattern matches.
-fn found_places<T: Tree>(
-    heap: Global,
-    tree: &T,
-    pattern: &Pattern,
-) -> Result<Vec<usize>, AllocError> {
-    let mut places = Vec::new(heap);
-    for place in 0..tree.places() {
-        if match_at(tree, pattern, place).is_ok() {
-            places.push(place)?;
+    // Each place of a tree at which the pattern matches, and the match.
+    fn matches<T: Tree>(&self, heap: Global, tree: &T) -> Result<Vec<(usize, Match)>, AllocError> {
+        (0..tree.places())
+            .filter_map(|place| Some((place, match_at(tree, &self.pattern, place).ok()?)))
+            .collect(heap)
+    }
+
+    /// Writes each place at which the pattern matches, with its bindings.
+    pub(crate) fn print_found<T: Tree, W: Write>(
+        &self,
+        heap: Global,
+        out: &mut W,
+        tree: &T,
+    ) -> io::Result<()> {
+        let matches = self.matches(heap, tree)?;
+        let count = matches.len();
+        writeln!(out, "ok {count} found")?;
+        for (place, found) in &matches {
+            write!(out, "{place}: ")?;
+            self.print_bindings(out, found)?;
+            out.write_all(b"\n")?;
         }
-    }
-    Ok(places)
-}
-
-/// Writes each place at which a pattern text matches, with its bindings.
-pub(crate) fn print_found<T: Tree, W: Write>(
-    out: &mut W,
-    heap: Global,
-    tree: &T,
-    book: &[u8],
-    text: &[u8],
-) -> io::Result<()> {
-    match read_pattern(book, text) {
-        Ok(pattern) => {
-            let places = found_places(heap, tree, &pattern)?;
-            let count = places.len();
-            writeln!(out, "ok {count} found")?;
-            for place in places.iter() {
-                if let Ok(found) = match_at(tree, &pattern, *place) {
-                    write!(out, "{place}: ")?;
-                    print_bindings(out, text, &found)?;
-                    out.write_all(b"\n")?;
-                }
-            }
-            Ok(())
-        }
-        Err(refusal) => print_refusal(out, refusal),
+        Ok(())
     }
 }

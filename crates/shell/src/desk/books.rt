@@ -1,36 +1,31 @@
 // What the commands of the label book do.
 use crate::desk::Desk;
-use crate::operands::{cut, read_hex};
-use crate::print::print_refusal;
+use crate::failure::Failure;
 use std::alloc::AllocError;
 use std::io;
 use std::io::Write;
 
 impl Desk {
-    pub(crate) fn set_book<W: Write>(&mut self, hex: &[u8], out: &mut W) -> io::Result<bool> {
-        let Some(bytes) = read_hex(self.heap, hex)? else {
-            return Ok(false);
-        };
+    pub(crate) fn set_book<W: Write>(&mut self, bytes: Vec<u8>, out: &mut W) -> io::Result<()> {
         self.book = bytes;
-        self.print_book(out)?;
-        Ok(true)
+        self.print_book(out)
     }
 
     pub(crate) fn add_label<W: Write>(
         &mut self,
-        number: u32,
+        label: u16,
         name: &[u8],
         out: &mut W,
     ) -> io::Result<()> {
-        self.push_record(number, name)?;
+        self.push_record(label, name)?;
         self.print_book(out)
     }
 
     // Appends a record, unchecked; its length counts the whole record.
-    fn push_record(&mut self, number: u32, name: &[u8]) -> Result<(), AllocError> {
+    fn push_record(&mut self, label: u16, name: &[u8]) -> Result<(), AllocError> {
         let length = name.len().saturating_add(6) as u64;
         let [a, b, c, d, ..] = length.to_le_bytes();
-        let [low, high, ..] = number.to_le_bytes();
+        let [low, high] = label.to_le_bytes();
         self.book.extend_from_slice(&[a, b, c, d, low, high])?;
         self.book.extend_from_slice(name)
     }
@@ -40,14 +35,11 @@ impl Desk {
         writeln!(out, "ok book of {count} bytes")
     }
 
-    pub(crate) fn print_name<W: Write>(&self, number: u32, out: &mut W) -> io::Result<()> {
-        match labels::name_of(self.book.as_slice(), cut(number)) {
-            Ok(name) => {
-                out.write_all(b"ok ")?;
-                out.write_all(name)?;
-                out.write_all(b"\n")
-            }
-            Err(refusal) => print_refusal(out, refusal),
-        }
+    pub(crate) fn print_name<W: Write>(&self, label: u16, out: &mut W) -> Result<(), Failure> {
+        let name = labels::name_of(self.book.as_slice(), label)?;
+        out.write_all(b"ok ")?;
+        out.write_all(name)?;
+        out.write_all(b"\n")?;
+        Ok(())
     }
 }
