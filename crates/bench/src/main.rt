@@ -11,12 +11,8 @@ fn large_book(heap: Global) -> Result<Vec<u8>, AllocError> {
     for number in 0..4096u16 {
         let [low, high] = number.to_le_bytes();
         book.extend_from_slice(&[70, 0, 0, 0, low, high])?;
-        for _ in 0..60 {
-            book.push(b'n')?;
-        }
-        for shift in [9, 6, 3, 0] {
-            book.push(b'0' + ((number >> shift) & 7) as u8)?;
-        }
+        book.extend_from_slice(&[b'n'; 60])?;
+        book.extend_from_slice(format!(in heap; "{number:04o}")?.as_bytes())?;
     }
     Ok(book)
 }

@@ -3,6 +3,7 @@
 
 use std::io::{BufWriter, Read, Write};
 
+// Kept as the same lines that `vectors` has: a function for both would be public with nothing to promise, since no contract speaks of what is read or written.
 fn main(rt: HostRuntime) -> anyhow::Result<()> {
     let mut script = Vec::new(rt.alloc());
     rt.stdin().read_to_end(&mut script)?;

@@ -1,7 +1,7 @@
 // The program: obeys the script in a file, or on standard input.
 #![tactic(auto)]
 
-use anyhow::anyhow;
+use anyhow::ensure;
 use std::io::{BufWriter, Read, Write};
 use std::{env, fs};
 
@@ -20,11 +20,8 @@ fn obey(rt: &HostRuntime) -> anyhow::Result<()> {
     let mut out = BufWriter::new(rt.alloc(), rt.stdout())?;
     let understood = shell::run(rt.alloc(), script.as_slice(), &mut out)?;
     out.flush()?;
-    if understood {
-        Ok(())
-    } else {
-        Err(anyhow!("some lines were not understood"))
-    }
+    ensure!(understood, "some lines were not understood");
+    Ok(())
 }
 
 fn main(rt: HostRuntime) -> anyhow::Result<()> {

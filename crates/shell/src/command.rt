@@ -39,7 +39,7 @@ fn book_command<'a>(heap: Global, word: &[u8], rest: &'a [u8]) -> Result<Command
         b"book" => Ok(Command::Book(read_hex(heap, rest)?)),
         b"label" => read_label(rest),
         b"check-book" => alone(rest, Command::CheckBook),
-        b"name" => Ok(Command::Name(read_half(rest).ok_or(Failure::NotUnderstood)?)),
+        b"name" => Ok(Command::Name(read_half(rest)?)),
         _ => tree_command(heap, word, rest),
     }
 }
@@ -54,7 +54,7 @@ fn tree_command<'a>(heap: Global, word: &[u8], rest: &'a [u8]) -> Result<Command
         b"check-outline" => Ok(Command::CheckOutline(read_records(heap, rest)?)),
         b"show" => alone(rest, Command::Show),
         b"write" => alone(rest, Command::Write),
-        b"room" => Ok(Command::Room(read_number(rest).ok_or(Failure::NotUnderstood)?)),
+        b"room" => Ok(Command::Room(read_number(rest)?)),
         _ => search_command(heap, word, rest),
     }
 }
@@ -80,13 +80,12 @@ fn alone<'a>(rest: &[u8], command: Command<'a>) -> Result<Command<'a>, Failure> 
 
 fn read_label(rest: &[u8]) -> Result<Command<'_>, Failure> {
     let (number, name) = split_word(rest);
-    let label = read_half(number).ok_or(Failure::NotUnderstood)?;
-    Ok(Command::Label(label, name.ok_or(Failure::NotUnderstood)?))
+    let name = name.ok_or(Failure::NotUnderstood)?;
+    Ok(Command::Label(read_half(number)?, name))
 }
 
 // A place and a text, which may be empty.
 fn read_match(rest: &[u8]) -> Result<Command<'_>, Failure> {
     let (number, text) = split_word(rest);
-    let place = read_number(number).ok_or(Failure::NotUnderstood)?;
-    Ok(Command::Match(place, text.unwrap_or(b"")))
+    Ok(Command::Match(read_number(number)?, text.unwrap_or(b"")))
 }

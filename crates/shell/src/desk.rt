@@ -13,19 +13,21 @@ use store::Store;
 use trees::image::check_image;
 use trees::outline::check_outline;
 
-/// The book and the tree of a script, and the room for the next command that writes.
+/// The book and the tree of a script, the room for the next command that writes, and where answers are written.
 #[derive(Drop)]
-pub(crate) struct Desk {
+pub(crate) struct Desk<'a, W> {
     heap: Global,
+    out: &'a mut W,
     book: Vec<u8>,
     store: Option<Store>,
     room: Option<u32>,
 }
 
-impl Desk {
-    pub(crate) fn new(heap: Global) -> Desk {
+impl<'a, W: Write> Desk<'a, W> {
+    pub(crate) fn new(heap: Global, out: &'a mut W) -> Desk<'a, W> {
         Desk {
             heap,
+            out,
             book: Vec::new(heap),
             store: None,
             room: None,
@@ -33,55 +35,55 @@ impl Desk {
     }
 
     /// Writes a line and its answer, and says whether it was understood.
-    pub(crate) fn obey<W: Write>(&mut self, line: &[u8], out: &mut W) -> io::Result<bool> {
-        out.write_all(b"> ")?;
-        out.write_all(line)?;
-        out.write_all(b"\n")?;
+    pub(crate) fn obey(&mut self, line: &[u8]) -> io::Result<bool> {
+        self.out.write_all(b"> ")?;
+        self.out.write_all(line)?;
+        self.out.write_all(b"\n")?;
         if line.starts_with(b"#") {
             return Ok(true);
         }
-        match self.answer(line, out) {
+        match self.answer(line) {
             Ok(()) => Ok(true),
             Err(Failure::Output(error)) => Err(error),
             Err(Failure::Memory(error)) => Err(error.into()),
             Err(failure) => {
-                writeln!(out, "{failure}")?;
+                writeln!(self.out, "{failure}")?;
                 Ok(!matches!(failure, Failure::NotUnderstood))
             }
         }
     }
 
-    fn answer<W: Write>(&mut self, line: &[u8], out: &mut W) -> Result<(), Failure> {
+    fn answer(&mut self, line: &[u8]) -> Result<(), Failure> {
         match Command::read(self.heap, line)? {
-            Command::Book(bytes) => self.set_book(bytes, out)?,
-            Command::Label(label, name) => self.add_label(label, name, out)?,
+            Command::Book(bytes) => self.set_book(bytes)?,
+            Command::Label(label, name) => self.add_label(label, name)?,
             Command::CheckBook => {
                 let records = labels::check(self.book.as_slice())?;
-                writeln!(out, "ok {records} records")?;
+                writeln!(self.out, "ok {records} records")?;
             }
-            Command::Name(label) => self.print_name(label, out)?,
-            Command::Image(bytes) => self.set_store(Store::Image(bytes), out)?,
-            Command::Outline(records) => self.set_store(Store::Outline(records), out)?,
-            Command::Tree(text) => self.set_tree(text, out)?,
-            Command::TreeHex(text) => self.set_tree(text.as_slice(), out)?,
+            Command::Name(label) => self.print_name(label)?,
+            Command::Image(bytes) => self.set_store(Store::Image(bytes))?,
+            Command::Outline(records) => self.set_store(Store::Outline(records))?,
+            Command::Tree(text) => self.set_tree(text)?,
+            Command::TreeHex(text) => self.set_tree(text.as_slice())?,
             Command::CheckImage(bytes) => {
                 let places = check_image(bytes.as_slice())?;
-                writeln!(out, "ok {places} places")?;
+                writeln!(self.out, "ok {places} places")?;
             }
             Command::CheckOutline(records) => {
                 let places = check_outline(records.as_slice())?;
-                writeln!(out, "ok {places} places")?;
+                writeln!(self.out, "ok {places} places")?;
             }
-            Command::Show => self.show(out)?,
-            Command::Write => self.write(out)?,
+            Command::Show => self.show()?,
+            Command::Write => self.write()?,
             Command::Room(room) => {
                 self.room = Some(room);
-                writeln!(out, "ok room {room}")?;
+                writeln!(self.out, "ok room {room}")?;
             }
-            Command::Pattern(text) => self.print_pattern(text, out)?,
-            Command::PatternHex(text) => self.print_pattern(text.as_slice(), out)?,
-            Command::Match(place, text) => self.match_place(place as usize, text, out)?,
-            Command::Find(text) => self.find(text, out)?,
+            Command::Pattern(text) => self.print_pattern(text)?,
+            Command::PatternHex(text) => self.print_pattern(text.as_slice())?,
+            Command::Match(place, text) => self.match_place(place as usize, text)?,
+            Command::Find(text) => self.find(text)?,
         }
         Ok(())
     }

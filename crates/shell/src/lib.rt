@@ -17,11 +17,11 @@ mod search;
 
 /// Obeys a script line by line, writes what it answers, and says whether every line was understood.
 pub fn run<W: Write>(heap: Global, script: &[u8], out: &mut W) -> io::Result<bool> {
-    let mut desk = Desk::new(heap);
+    let mut desk = Desk::new(heap, out);
     let mut understood = true;
     for line in Lines::new(script) {
         if !is_blank(line) {
-            understood &= desk.obey(line, out)?;
+            understood &= desk.obey(line)?;
         }
     }
     Ok(understood)

@@ -17,23 +17,25 @@ pub(crate) fn split_word(text: &[u8]) -> (&[u8], Option<&[u8]>)
 }
 
 /// A number of 1 to 10 digits that fits 32 bits.
-pub(crate) fn read_number(text: &[u8]) -> Option<u32> {
+pub(crate) fn read_number(text: &[u8]) -> Result<u32, Failure> {
     if text.is_empty() || text.len() > 10 {
-        return None;
+        return Err(Failure::NotUnderstood);
     }
-    text.iter().try_fold(0u32, |value, byte| {
-        let digit = char::from(*byte).to_digit(10)?;
-        value.checked_mul(10)?.checked_add(digit)
-    })
+    text.iter()
+        .try_fold(0u32, |value, byte| {
+            let digit = char::from(*byte).to_digit(10)?;
+            value.checked_mul(10)?.checked_add(digit)
+        })
+        .ok_or(Failure::NotUnderstood)
 }
 
 /// The lower 16 bits of a number.
-pub(crate) fn read_half(text: &[u8]) -> Option<u16> {
+pub(crate) fn read_half(text: &[u8]) -> Result<u16, Failure> {
     let number = read_number(text)?;
-    Some((number & 0xffff) as u16)
+    Ok((number & 0xffff) as u16)
 }
 
-// A byte of two hexadecimal digits.
+// The byte of two hexadecimal digits.
 fn read_byte(pair: &[u8]) -> Option<u8> {
     let [high, low] = pair else {
         return None;
@@ -55,9 +57,9 @@ pub(crate) fn read_hex(heap: Global, text: &[u8]) -> Result<Vec<u8>, Failure> {
 }
 
 // A record of an outline: a depth, a colon and a label.
-fn read_record(word: &[u8]) -> Option<Record> {
-    let (depth, label) = split_once(word, b':')?;
-    Some(Record {
+fn read_record(word: &[u8]) -> Result<Record, Failure> {
+    let (depth, label) = split_once(word, b':').ok_or(Failure::NotUnderstood)?;
+    Ok(Record {
         depth: read_half(depth)?,
         label: read_half(label)?,
     })
@@ -68,7 +70,7 @@ pub(crate) fn read_records(heap: Global, text: &[u8]) -> Result<Vec<Record>, Fai
     let mut records = Vec::new(heap);
     for word in text.split(|byte| *byte == b' ') {
         if !word.is_empty() {
-            records.push(read_record(word).ok_or(Failure::NotUnderstood)?)?;
+            records.push(read_record(word)?)?;
         }
     }
     Ok(records)

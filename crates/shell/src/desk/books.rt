@@ -5,20 +5,15 @@ use std::alloc::AllocError;
 use std::io;
 use std::io::Write;
 
-impl Desk {
-    pub(crate) fn set_book<W: Write>(&mut self, bytes: Vec<u8>, out: &mut W) -> io::Result<()> {
+impl<W: Write> Desk<'_, W> {
+    pub(crate) fn set_book(&mut self, bytes: Vec<u8>) -> io::Result<()> {
         self.book = bytes;
-        self.print_book(out)
+        self.print_book()
     }
 
-    pub(crate) fn add_label<W: Write>(
-        &mut self,
-        label: u16,
-        name: &[u8],
-        out: &mut W,
-    ) -> io::Result<()> {
+    pub(crate) fn add_label(&mut self, label: u16, name: &[u8]) -> io::Result<()> {
         self.push_record(label, name)?;
-        self.print_book(out)
+        self.print_book()
     }
 
     // Appends a record, unchecked; its length counts the whole record.
@@ -30,16 +25,16 @@ impl Desk {
         self.book.extend_from_slice(name)
     }
 
-    fn print_book<W: Write>(&self, out: &mut W) -> io::Result<()> {
+    fn print_book(&mut self) -> io::Result<()> {
         let count = self.book.len();
-        writeln!(out, "ok book of {count} bytes")
+        writeln!(self.out, "ok book of {count} bytes")
     }
 
-    pub(crate) fn print_name<W: Write>(&self, label: u16, out: &mut W) -> Result<(), Failure> {
+    pub(crate) fn print_name(&mut self, label: u16) -> Result<(), Failure> {
         let name = labels::name_of(self.book.as_slice(), label)?;
-        out.write_all(b"ok ")?;
-        out.write_all(name)?;
-        out.write_all(b"\n")?;
+        self.out.write_all(b"ok ")?;
+        self.out.write_all(name)?;
+        self.out.write_all(b"\n")?;
         Ok(())
     }
 }

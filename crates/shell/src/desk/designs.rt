@@ -20,29 +20,29 @@ const OUTLINE_ROOM: usize = MAX_PLACES;
 
 const NO_RECORD: Record = Record { depth: 0, label: 0 };
 
-impl Desk {
+impl<W: Write> Desk<'_, W> {
     // Takes a tree in place of the one that stood.
-    pub(crate) fn set_store<W: Write>(&mut self, mut store: Store, out: &mut W) -> io::Result<()> {
+    pub(crate) fn set_store(&mut self, mut store: Store) -> io::Result<()> {
         let make = store.make();
         let places = store.tree().places();
         self.store = Some(store);
-        writeln!(out, "ok {make}, {places} places")
+        writeln!(self.out, "ok {make}, {places} places")
     }
 
     // Reads tree text; a refusal leaves the tree that stood.
-    pub(crate) fn set_tree<W: Write>(&mut self, text: &[u8], out: &mut W) -> Result<(), Failure> {
+    pub(crate) fn set_tree(&mut self, text: &[u8]) -> Result<(), Failure> {
         let room = self.take_room(OUTLINE_ROOM);
         let mut records = vec![in self.heap; NO_RECORD; room]?;
         let count = read_tree(self.book.as_slice(), text, records.as_mut_slice())?;
         records.truncate(count);
-        self.set_store(Store::Outline(records), out)?;
+        self.set_store(Store::Outline(records))?;
         Ok(())
     }
 
-    pub(crate) fn show<W: Write>(&mut self, out: &mut W) -> Result<(), Failure> {
+    pub(crate) fn show(&mut self) -> Result<(), Failure> {
         let (book, _) = Book::open(self.book.as_slice());
         let tree = tree_of(&mut self.store)?;
-        print_tree(self.heap, out, &tree, &book)
+        print_tree(self.heap, self.out, &tree, &book)
     }
 
     // The room for a command that writes, which the command uses up.
@@ -52,13 +52,13 @@ impl Desk {
             .map_or(most, |room| (room as usize).min(most))
     }
 
-    pub(crate) fn write<W: Write>(&mut self, out: &mut W) -> Result<(), Failure> {
+    pub(crate) fn write(&mut self) -> Result<(), Failure> {
         let room = self.take_room(IMAGE_ROOM);
         let mut image = vec![in self.heap; 0u8; room]?;
         let tree = tree_of(&mut self.store)?;
         let count = write_image(&tree, image.as_mut_slice())?;
         image.truncate(count);
-        writeln!(out, "ok {count} bytes {}", Hex(image.as_slice()))?;
+        writeln!(self.out, "ok {count} bytes {}", Hex(image.as_slice()))?;
         Ok(())
     }
 }

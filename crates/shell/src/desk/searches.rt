@@ -5,28 +5,23 @@ use crate::failure::Failure;
 use crate::search::Search;
 use std::io::Write;
 
-impl Desk {
-    pub(crate) fn print_pattern<W: Write>(&self, text: &[u8], out: &mut W) -> Result<(), Failure> {
+impl<W: Write> Desk<'_, W> {
+    pub(crate) fn print_pattern(&mut self, text: &[u8]) -> Result<(), Failure> {
         let search = Search::read(self.heap, self.book.as_slice(), text)?;
-        search.print(out)?;
+        search.print(self.out)?;
         Ok(())
     }
 
-    pub(crate) fn match_place<W: Write>(
-        &mut self,
-        place: usize,
-        text: &[u8],
-        out: &mut W,
-    ) -> Result<(), Failure> {
+    pub(crate) fn match_place(&mut self, place: usize, text: &[u8]) -> Result<(), Failure> {
         let tree = tree_of(&mut self.store)?;
         let search = Search::read(self.heap, self.book.as_slice(), text)?;
-        search.print_match(out, &tree, place)
+        search.print_match(self.out, &tree, place)
     }
 
-    pub(crate) fn find<W: Write>(&mut self, text: &[u8], out: &mut W) -> Result<(), Failure> {
+    pub(crate) fn find(&mut self, text: &[u8]) -> Result<(), Failure> {
         let tree = tree_of(&mut self.store)?;
         let search = Search::read(self.heap, self.book.as_slice(), text)?;
-        search.print_found(self.heap, out, &tree)?;
+        search.print_found(self.heap, self.out, &tree)?;
         Ok(())
     }
 }
