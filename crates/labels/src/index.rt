@@ -7,7 +7,7 @@ ghost use Rattle.labels.specs.Entries.{Rising, above_last, label_of, name_of, ba
 ghost use Rattle.labels.specs.Index.{known, Heads, Links, Noted};
 
 use crate::entry::{Entry, read_entry};
-use crate::names::{bucket, is_good_name};
+use crate::names::{Key, is_good_name};
 use refusals::{Cause, Layer, Refusal};
 
 const LARGEST: u16 = 32767;
@@ -43,16 +43,19 @@ pub(crate) struct Index<'a> {
 
 impl<'a> Tables<'a> {
     /// Notes an entry as the last record, in its bucket too.
-    fn note(&mut self, entry: Entry<'a>)
+    fn note(&mut self, label: u16, key: Key<'a>)
         requires { self.old.count < 4096 }
-        ensures { Noted self.old self.new entry.entry }
+        ensures { Noted self.old self.new (record { label = label; name = key.entry.name }) }
     {
-        let bucket = bucket(entry.name);
+        let entry = Entry {
+            label,
+            name: key.name,
+        };
         self.records[self.count] = Record {
             entry,
-            before: self.last[bucket],
+            before: self.last[key.bucket],
         };
-        self.last[bucket] = Some(self.count as u16);
+        self.last[key.bucket] = Some(self.count as u16);
         self.count += 1;
     }
 }
@@ -91,10 +94,17 @@ impl<'a> Index<'a> {
     pub(crate) fn label(&self, name: &[u8]) -> Option<u16>
         ensures { result ≡ label_of (known self.now.tables) name.now }
     {
-        let mut next = self.tables.last[bucket(name)];
+        self.find(Key::of(name))
+    }
+
+    /// The label that has the name of this key.
+    fn find(&self, key: Key) -> Option<u16>
+        ensures { result ≡ label_of (known self.now.tables) key.entry.name.now }
+    {
+        let mut next = self.tables.last[key.bucket];
         while let Some(number) = next {
             let record = self.tables.records[usize::from(number)];
-            if record.entry.name == name {
+            if record.entry.name == key.name {
                 return Some(record.entry.label);
             }
             next = record.before;
@@ -130,10 +140,10 @@ impl<'a> Index<'a> {
     }
 
     /// Whether a name cannot follow those that are known.
-    fn is_bad_name(&self, name: &[u8]) -> bool
-        ensures { result ≡ bad_name (known self.now.tables) name.now }
+    fn is_bad_name(&self, key: Key) -> bool
+        ensures { result ≡ bad_name (known self.now.tables) key.entry.name.now }
     {
-        !is_good_name(name) || self.label(name).is_some()
+        !is_good_name(key.name) || self.find(key).is_some()
     }
 
     /// Reads the record at a byte, behind those that are known, and answers where the next starts.
@@ -146,13 +156,14 @@ impl<'a> Index<'a> {
         if self.is_bad_label(entry.label) {
             return Err(Cause::BadLabel);
         }
-        if self.is_bad_name(entry.name) {
+        let key = Key::of(entry.name);
+        if self.is_bad_name(key) {
             return Err(Cause::BadName);
         }
         if self.tables.count >= MOST {
             return Err(Cause::TooMany);
         }
-        self.tables.note(entry);
+        self.tables.note(entry.label, key);
         Ok(at + 6 + entry.name.len())
     }
 

@@ -6,6 +6,15 @@ ghost use Rattle.labels.specs.Index.{bucket_of};
 
 const LONGEST: usize = 64;
 
+/// Bytes that are looked for as a name, and their bucket.
+#[derive(Clone, Copy)]
+pub(crate) struct Key<'a> {
+    pub(crate) name: &'a [u8],
+    pub(crate) bucket: usize,
+    ghost hashed: { bucket ≡ bucket_of name.now },
+    ghost small: { bucket < 4096 },
+}
+
 fn is_name_byte(byte: u8) -> bool
     ensures { result ≡ name_byte byte }
 {
@@ -26,7 +35,7 @@ pub(crate) fn is_good_name(name: &[u8]) -> bool
 }
 
 /// The bucket of a name.
-pub(crate) fn bucket(name: &[u8]) -> usize
+fn bucket(name: &[u8]) -> usize
     ensures value { result ≡ bucket_of name.now }
     ensures bound { result < 4096 }
 {
@@ -34,4 +43,16 @@ pub(crate) fn bucket(name: &[u8]) -> usize
         hash.wrapping_add(u32::from(*byte)).wrapping_mul(2654435761)
     });
     (hash / 1048576) as usize
+}
+
+impl<'a> Key<'a> {
+    /// The key of a name.
+    pub(crate) fn of(name: &'a [u8]) -> Key<'a>
+        ensures { result.name.now ≡ name.now }
+    {
+        Key {
+            name,
+            bucket: bucket(name),
+        }
+    }
 }

@@ -31,7 +31,7 @@ returns-then-self-ge-MOST-clause-read c =
     let t = x.tables in
     let rest = drop c.args.at x.bytes.now in
     let was = c.ok_or.ensures.ok_part ∙ ap result_ok c.in_ok-entry.was in
-    let p = passed (known t) _ rest c.in_ok-entry.entry (take_rest x.bytes.now c.args.at) (rw was at c.read_entry.ensures) c.if-is_bad_label.ensures c.if-is_bad_name.ensures in
+    let p = passed (known t) _ rest c.in_ok-entry.entry (take_rest x.bytes.now c.args.at) (rw was at c.read_entry.ensures) c.if-is_bad_label.ensures (c.if-is_bad_name.ensures ∙ ap (bad_name _) c.of-key.ensures) in
     fault_many (known t) rest p.long p.label p.name (omega (arith, length_noted t.records t.count (omega (arith, x.full, x.few))))
 
 pub invariant_of-self : goal.invariant_of-self
@@ -56,8 +56,8 @@ returns-clause-read c =
     let rest = drop c.args.at x.bytes.now in
     let room : s.count < length s.records = omega (arith, x.full) in
     let was = c.ok_or.ensures.ok_part ∙ ap result_ok c.in_ok-entry.was in
-    let p = passed (known s) _ rest c.in_ok-entry.entry (take_rest x.bytes.now c.args.at) (rw was at c.read_entry.ensures) c.if-is_bad_label.ensures c.if-is_bad_name.ensures in (
+    let p = passed (known s) _ rest c.in_ok-entry.entry (take_rest x.bytes.now c.args.at) (rw was at c.read_entry.ensures) c.if-is_bad_label.ensures (c.if-is_bad_name.ensures ∙ ap (bad_name _) c.of-key.ensures) in (
       fault_none (known s) rest p.long p.label p.name (omega (arith, length_noted s.records s.count (omega arith))),
-      note_known s t _ c.note.ensures room ∙ (λ i. record { label = p.labelled i; name = p.named i } ∷ known s),
+      note_known s t _ c.note.ensures room ∙ (λ i. record { label = p.labelled i; name = (c.of-key.ensures ∙ p.named) i } ∷ known s),
       omega (arith, ap length p.named, name_length rest (good_parts rest p.long)),
     )
