@@ -1,5 +1,5 @@
 -- What the chains of an index's records say of the names.
-use Rattle.std.proofs.Common.{◌≡◌, ℕ, zero, suc, ◌+◌, ◌^◌, ◌<◌, ◌≤◌, eqb, ◌≢◌, List, [], ◌∷◌, ◌++◌, length, map, reverse, get_or, take, set, fold, Some, None, Option, sym, refl, ap, ◌∙◌, subst, ⊎_elim, add-one, arith}
+use Rattle.std.proofs.Common.{◌≡◌, ℕ, zero, suc, ◌^◌, ◌<◌, ◌≤◌, eqb, ◌≢◌, List, [], ◌∷◌, length, map, reverse, get_or, take, set, fold, Some, None, Option, sym, refl, ap, ◌∙◌, subst, ⊎_elim, add-one, arith}
 use Rattle.std.proofs.Math.Seq.{take-suc}
 use Rattle.std.proofs.lemmas.List.{get_or-set_same, get_or-set_other, reverse-append, take-set-le, length-map, length-reverse, length-take-le, length-set}
 use Rattle.std.proofs.lemmas.Bool.{cases_Bool, cond-true, cond-false, eqb-true, eqb-false, cases_eq}
@@ -34,11 +34,11 @@ newest_below b (e ∷ es) = ⊎_elim
 pub other_name : (e : Entry) (es : List Entry) (n : List ℕ) → (e.name ≡ n → ⊥) → label_of (e ∷ es) n ≡ label_of es n
 other_name e es n d = ⊎_elim
     (λ t. absurd (d ((bytes_eq-Decides e.name n).0 t)))
-    (λ f. cond-false (bytes_eq e.name n) (Some e.label) (label_of es n) f)
+    (λ f. rw f)
     (cases_Bool (bytes_eq e.name n))
 
 pub same_name : (e : Entry) (es : List Entry) (n : List ℕ) → e.name ≡ n → label_of (e ∷ es) n ≡ Some e.label
-same_name e es n d = cond-true (bytes_eq e.name n) (Some e.label) (label_of es n) ((bytes_eq-Decides e.name n).1 d)
+same_name e es n d = rw ((bytes_eq-Decides e.name n).1 d)
 
 -- the records behind the last one in a name's bucket have other names
 skips : (rs : List Record) (d : Record) (n : List ℕ) (m : ℕ) → m ≤ length rs → label_of (noted rs m) n ≡ label_of (noted rs (through (newest (bucket_of n) (noted rs m)))) n

@@ -1,6 +1,6 @@
 -- What a binary search for a label finds among labels that rise.
-use Rattle.std.proofs.Common.{◌≡◌, ℕ, zero, suc, ◌+◌, ◌<◌, ◌≤◌, eqb, List, [], ◌∷◌, length, get_or, take, Some, None, Ok, Err, Result, MatchResult, refl, sym, ap, ◌∙◌, subst, ⊎_elim, arith}
-use Rattle.std.proofs.lemmas.Bool.{cases_Bool, cases_lt, cases_eq, cond-true, cond-false, eqb-true, eq-eqb}
+use Rattle.std.proofs.Common.{◌≡◌, ℕ, zero, suc, ◌<◌, ◌≤◌, eqb, List, [], ◌∷◌, length, get_or, take, Some, None, Ok, Err, Result, MatchResult, sym, ap, ◌∙◌, subst, ⊎_elim, arith}
+use Rattle.std.proofs.lemmas.Bool.{cases_Bool, cases_lt, cases_eq, cond-false, eqb-true, eq-eqb}
 use Rattle.std.proofs.lemmas.Bool.Decides.{nat_tests}
 use Rattle.std.proofs.lemmas.Cmp.{ranked}
 use Rattle.std.proofs.lemmas.List.{get_or-take, length-take-le}
@@ -14,7 +14,7 @@ use Rattle.labels.specs.Index.{entry_of, noted}
 use Rattle.labels.proofs.Chains.{noted_more}
 
 pub same_label : (e : Entry) (es : List Entry) (l : ℕ) → e.label ≡ l → name_of (e ∷ es) l ≡ Some e.name
-same_label e es l h = cond-true (eqb e.label l) (Some e.name) (name_of es l) (eq-eqb e.label l h)
+same_label e es l h = rw (eq-eqb e.label l h)
 
 -- records with other labels are passed over
 passes : (rs : List Record) (d : Record) (l m n : ℕ) → m ≤ n → n ≤ length rs → ((k : ℕ) → m ≤ k → k < n → (get_or rs k d).entry.label ≡ l → ⊥) → name_of (noted rs n) l ≡ name_of (noted rs m) l

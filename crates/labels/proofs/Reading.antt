@@ -1,9 +1,10 @@
 -- One record after the other, as `read-on` has it.
-use Rattle.std.proofs.Common.{◌≡◌, ℕ, zero, suc, ◌+◌, ◌-◌, ◌<◌, ◌≤◌, true, false, subst, length-drop, MatchResult, is_ok, List, [], ◌∷◌, length, drop, is_some, Some, None, Ok, Err, Option, Result, sym, refl, ap, ◌∙◌, ⊎_elim, arith}
-use Rattle.std.proofs.lemmas.Bool.{cases_Bool, true≢false}
+use Rattle.std.proofs.Common.{◌≡◌, ℕ, zero, suc, ◌+◌, ◌-◌, ◌<◌, ◌≤◌, subst, length-drop, List, [], ◌∷◌, length, drop, Some, None, Ok, Err, Option, Result, sym, refl, ap, ◌∙◌, ⊎_elim, arith}
+use Rattle.std.proofs.lemmas.Bool.{cases_Bool}
 use Rattle.std.proofs.lemmas.List.{drop-drop, drop_all}
 use Rattle.records.specs.Heads.{length_of}
 use Rattle.refusals.specs.declared.Cause.{Cause}
+use Rattle.refusals.specs.declared.Cause.TheVariants.{BadLength}
 use Rattle.refusals.specs.declared.Layer.TheVariants.{Book}
 use Rattle.refusals.specs.declared.Refusal.{Refusal}
 use Rattle.refusals.specs.Numbers.{refused}
@@ -30,7 +31,7 @@ read_end (suc n) es i = refl
 -- a record with no fault is whole
 pub fine_parts : (es : List Entry) (bs : List ℕ) → fault es bs ≡ None → Parts bs
 fine_parts es bs f = ⊎_elim
-    (λ t. absurd (true≢false (ap is_some (sym (fault_length es bs t) ∙ f))))
+    (λ t. let wrong : Some BadLength ≡ None = sym (fault_length es bs t) ∙ f in cc)
     (λ g. good_parts bs g)
     (cases_Bool (bad_length bs))
 

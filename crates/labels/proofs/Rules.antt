@@ -1,5 +1,5 @@
 -- The tests of names and labels say what the rules of books say.
-use Rattle.std.proofs.Common.{◌≡◌, ℕ, ◌<◌, ◌≤◌, true, false, not, ◌&&◌, eqb, ltb, leb, List, [], ◌∷◌, length, is_some, sym, refl, ap, ◌∙◌, arith}
+use Rattle.std.proofs.Common.{◌≡◌, ℕ, ◌<◌, ◌≤◌, true, false, not, eqb, ltb, leb, List, [], ◌∷◌, length, is_some, sym, refl, ap, ◌∙◌, arith}
 use Rattle.std.proofs.lemmas.Bool.{true≢false, and_parts, and_from, ltb-true, lt-ltb, leb-true, le-leb, not-true, not-false, not_from_false, not_from_true, eqb-false, ne_eqb, ltb-false, le-ltb, or_parts, or_from}
 use Rattle.std.proofs.ByRecursion.{All-weaker}
 use Rattle.std.specs.List.{AllByRecursion, list_all}
@@ -36,10 +36,6 @@ good_from n h =
 
 pub good_to : (n : List ℕ) → GoodName n → good_name n ≡ true
 good_to n h = and_from (ltb 0 (length n)) _ (lt-ltb 0 (length n) h.some) (and_from (leb (length n) 64) (list_all name_byte n) (le-leb (length n) 64 h.short) (bytes_to n h.bytes))
-
--- of a name with the right length the bytes decide
-pub bytes_decide : (n : List ℕ) → 1 ≤ length n → length n ≤ 64 → good_name n ≡ list_all name_byte n
-bytes_decide n h k = λ i. lt-ltb 0 (length n) h i && (le-leb (length n) 64 k i && list_all name_byte n)
 
 -- a name that none of the entries has
 pub new_from : (es : List Entry) (n : List ℕ) → is_some (label_of es n) ≡ false → AllByRecursion (λ (d : Entry). d.name ≡ n → ⊥) es

@@ -1,5 +1,5 @@
 -- The binary search compares the labels of the records, which rise.
-use Rattle.std.proofs.Common.{◌≡◌, ◌≤◌, length, sym, ◌∙◌, Some, None, rules, arith}
+use Rattle.std.proofs.Common.{◌≤◌, length, sym, ◌∙◌, rules, arith}
 use Rattle.std.proofs.lemmas.List.Sorted.{answers_always}
 use Rattle.labels.proofs.Halving.{searched, ok_some, ok_none}
 use Rattle.labels.proofs.index.Index.name.Goals as goal

@@ -1,10 +1,7 @@
 -- Nothing is known, and each bucket is empty.
-use Rattle.std.proofs.Common.{None, arith}
+use Rattle.std.proofs.Common.{None}
 use Rattle.std.proofs.lemmas.List.{get_or-replicate}
 use Rattle.labels.proofs.index.Index.new.Goals as goal
 
 pub invariant_of-result-clause-heads : goal.invariant_of-result-clause-heads
 invariant_of-result-clause-heads c = λ b h. get_or-replicate 4096 b None None h
-
-pub invariant_of-result-clause-links : goal.invariant_of-result-clause-links
-invariant_of-result-clause-links c = λ k d h. absurd (omega arith)

@@ -1,5 +1,5 @@
 -- The loop reads as `read-on` does.
-use Rattle.std.proofs.Common.{◌≡◌, ◌+◌, ◌∷◌, List, ℕ, drop, length, Ok, Err, Some, None, Result, MatchResult, sym, ap, ◌∙◌, subst, rules, arith}
+use Rattle.std.proofs.Common.{◌≡◌, ◌+◌, ◌∷◌, List, ℕ, drop, Ok, Err, Some, None, Result, MatchResult, sym, ap, ◌∙◌, subst, rules}
 use Rattle.std.specs.Result.{IsErrAnd}
 use Rattle.std.proofs.lemmas.Result.{err_from_is_err_and}
 use Rattle.records.specs.Heads.{length_of}

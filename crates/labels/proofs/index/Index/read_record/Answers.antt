@@ -3,7 +3,6 @@ use Rattle.std.proofs.Common.{◌≡◌, ◌<◌, ◌∷◌, List, ℕ, false, l
 use Rattle.std.proofs.lemmas.List.{take_rest, length-set}
 use Rattle.std.specs.Result.{result_ok}
 use Rattle.labels.specs.declared.entry.Entry.{Entry as Lent}
-use Rattle.labels.specs.declared.index.Record.{Record}
 use Rattle.labels.specs.Entries.{Entry, bad_length, bad_label, bad_name, first_entry}
 use Rattle.labels.specs.Index.{known}
 use Rattle.labels.proofs.Chains.{length_noted, note_known, note_heads, note_links}
