@@ -173,6 +173,7 @@ impl<'a> Index<'a> {
     {
         let mut index = Index::new(bytes);
         let mut at = 0;
+        // Kept as `while`: each record says where the next one starts, so there is nothing to go over.
         while at < bytes.len() {
             at = index
                 .read_record(at)
