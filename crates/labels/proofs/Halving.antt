@@ -1,50 +1,94 @@
--- What the search for a label by halving passes over.
-use Rattle.std.proofs.Common.{◌≡◌, ℕ, zero, suc, ◌+◌, ◌<◌, ◌≤◌, eqb, List, ◌∷◌, Some, sym, ap, ◌∙◌, subst, ⊎_elim, arith}
-use Rattle.std.proofs.lemmas.Bool.{cases_Bool, cases_lt, cases_eq, cond-true, cond-false, eqb-true, eq-eqb}
+-- What a binary search for a label finds among labels that rise.
+use Rattle.std.proofs.Common.{◌≡◌, ℕ, zero, suc, ◌<◌, ◌≤◌, eqb, List, [], ◌∷◌, length, get_or, take, Some, None, Ok, Err, Result, MatchResult, sym, ap, ◌∙◌, subst, ⊎_elim, arith}
+use Rattle.std.proofs.lemmas.Bool.{cases_Bool, cases_lt, cases_eq, cond-false, eqb-true, eq-eqb}
+use Rattle.std.proofs.lemmas.Bool.Decides.{nat_tests}
+use Rattle.std.proofs.lemmas.Cmp.{ranked}
+use Rattle.std.proofs.lemmas.List.{get_or-take, length-take-le}
 use Rattle.std.specs.List.{AllByRecursion}
+use Rattle.std.specs.List.Sorted.{IsSearchInRange, IsBinarySearchResult, IsNonDecreasingBy}
+use Rattle.std.specs.Ordering.{nat_cmp, ordering_index}
+use Rattle.std.specs.Result.{result_ok}
+use Rattle.labels.specs.declared.index.Record.{Record}
 use Rattle.labels.specs.Entries.{Entry, Rising, name_of}
-use Rattle.labels.specs.Index.{record_at, noted}
-
--- the label of a record
-abbrev pub label_at : List ℕ → List ℕ → ℕ → ℕ
-label_at bs ss k = (record_at bs ss k).label
+use Rattle.labels.specs.Index.{entry_of, noted}
+use Rattle.labels.proofs.Chains.{noted_more}
 
 pub same_label : (e : Entry) (es : List Entry) (l : ℕ) → e.label ≡ l → name_of (e ∷ es) l ≡ Some e.name
-same_label e es l h = cond-true (eqb e.label l) (Some e.name) (name_of es l) (eq-eqb e.label l h)
+same_label e es l h = rw (eq-eqb e.label l h)
 
 -- records with other labels are passed over
-pub passes : (bs ss : List ℕ) (l m n : ℕ) → m ≤ n → ((k : ℕ) → m ≤ k → k < n → label_at bs ss k ≡ l → ⊥) → name_of (noted bs ss n) l ≡ name_of (noted bs ss m) l
-passes bs ss l m zero h d = let z : m ≡ 0 = omega arith in ap (λ (k : ℕ). name_of (noted bs ss k) l) (sym z)
-passes bs ss l m (suc n) h d = ⊎_elim
-    (λ (z : m ≡ suc n). ap (λ (k : ℕ). name_of (noted bs ss k) l) (sym z))
-    (λ z. let e = record_at bs ss n in ⊎_elim
-    (λ t. absurd (d n (omega (arith, z)) (omega arith) (eqb-true e.label l t)))
-    (λ f. cond-false (eqb e.label l) (Some e.name) (name_of (noted bs ss n) l) f ∙ passes bs ss l m n (omega (arith, z)) (λ k a b. d k a (omega arith)))
+passes : (rs : List Record) (d : Record) (l m n : ℕ) → m ≤ n → n ≤ length rs → ((k : ℕ) → m ≤ k → k < n → (get_or rs k d).entry.label ≡ l → ⊥) → name_of (noted rs n) l ≡ name_of (noted rs m) l
+passes rs d l m zero h u o = let z : m ≡ 0 = omega arith in ap (λ (k : ℕ). name_of (noted rs k) l) (sym z)
+passes rs d l m (suc n) h u o = ⊎_elim
+    (λ (z : m ≡ suc n). ap (λ (k : ℕ). name_of (noted rs k) l) (sym z))
+    (λ z. let e = entry_of (get_or rs n d) in ⊎_elim
+    (λ t. absurd (o n (omega (arith, z)) (omega arith) (eqb-true e.label l t)))
+    (λ f. ap (λ (es : List Entry). name_of es l) (noted_more rs n d (omega arith)) ∙ cond-false (eqb e.label l) (Some e.name) (name_of (noted rs n) l) f ∙ passes rs d l m n (omega (arith, z)) (omega arith) (λ k a b. o k a (omega arith)))
     (cases_Bool (eqb e.label l)))
     (cases_eq m (suc n))
 
-all_below : (bs ss : List ℕ) (l n : ℕ) → AllByRecursion (λ (d : Entry). d.label < l) (noted bs ss n) → (k : ℕ) → k < n → label_at bs ss k < l
-all_below bs ss l zero a k h = absurd (omega arith)
-all_below bs ss l (suc n) a k h = ⊎_elim (λ b. all_below bs ss l n a.1 k b) (λ b. let z : n ≡ k = omega arith in subst (λ (i : ℕ). label_at bs ss i < l) z a.0) (cases_lt k n)
+pub passes_all : (rs : List Record) (l m n : ℕ) → m ≤ n → n ≤ length rs → ((k : ℕ) (d : Record) → m ≤ k → k < n → (get_or rs k d).entry.label ≡ l → ⊥) → name_of (noted rs n) l ≡ name_of (noted rs m) l
+passes_all [] l m n h u o = let z : n ≡ m = omega arith in ap (λ (k : ℕ). name_of (noted [] k) l) z
+passes_all (r ∷ rs) l m n h u o = passes (r ∷ rs) r l m n h u (λ k. o k r)
+
+all_below : (rs : List Record) (d : Record) (l n : ℕ) → n ≤ length rs → AllByRecursion (λ (e : Entry). e.label < l) (noted rs n) → (k : ℕ) → k < n → (get_or rs k d).entry.label < l
+all_below rs d l zero u a k h = absurd (omega arith)
+all_below rs d l (suc n) u a k h =
+    let b = subst (AllByRecursion (λ (e : Entry). e.label < l)) (noted_more rs n d (omega arith)) a in
+    ⊎_elim (λ i. all_below rs d l n (omega arith) b.1 k i) (λ i. let z : n ≡ k = omega arith in subst (λ (j : ℕ). (get_or rs j d).entry.label < l) z b.0) (cases_lt k n)
 
 -- an earlier record has a lower label
-pub rises_at : (bs ss : List ℕ) (n : ℕ) → Rising (noted bs ss n) → (i j : ℕ) → i < j → j < n → label_at bs ss i < label_at bs ss j
-rises_at bs ss zero r i j h k = absurd (omega arith)
-rises_at bs ss (suc n) r i j h k = ⊎_elim
-    (λ b. rises_at bs ss n r.1 i j h b)
-    (λ b. let z : n ≡ j = omega arith in subst (λ (x : ℕ). label_at bs ss i < label_at bs ss x) z (all_below bs ss (label_at bs ss n) n r.0 i (omega arith)))
+pub rises_at : (rs : List Record) (d : Record) (n : ℕ) → n ≤ length rs → Rising (noted rs n) → (i j : ℕ) → i < j → j < n → (get_or rs i d).entry.label < (get_or rs j d).entry.label
+rises_at rs d zero u r i j h k = absurd (omega arith)
+rises_at rs d (suc n) u r i j h k =
+    let s = subst Rising (noted_more rs n d (omega arith)) r in
+    ⊎_elim
+    (λ b. rises_at rs d n (omega arith) s.1 i j h b)
+    (λ b. let z : n ≡ j = omega arith in subst (λ (x : ℕ). (get_or rs i d).entry.label < (get_or rs x d).entry.label) z (all_below rs d (get_or rs n d).entry.label n (omega arith) s.0 i (omega arith)))
     (cases_lt j n)
 
--- up to a record with a lower label none has the label
-pub lower : (bs ss : List ℕ) (n : ℕ) → Rising (noted bs ss n) → (m l : ℕ) → m < n → label_at bs ss m < l → (k : ℕ) → k < m + 1 → label_at bs ss k ≡ l → ⊥
-lower bs ss n r m l h b k i e = ⊎_elim
-    (λ j. omega (arith, rises_at bs ss n r k m j h))
-    (λ j. let z : m ≡ k = omega arith in omega (arith, subst (λ (x : ℕ). label_at bs ss x < l) z b))
-    (cases_lt k m)
+index_rises : (x y l : ℕ) → x ≤ y → ordering_index (nat_cmp x l) ≤ ordering_index (nat_cmp y l)
+index_rises x y l h = grind (arith, nat_tests)
 
--- from a record with a higher label on none has the label
-pub higher : (bs ss : List ℕ) (n : ℕ) → Rising (noted bs ss n) → (m l : ℕ) → m < n → l < label_at bs ss m → (k : ℕ) → m ≤ k → k < n → label_at bs ss k ≡ l → ⊥
-higher bs ss n r m l h b k i j e = ⊎_elim
-    (λ d. omega (arith, rises_at bs ss n r m k d j))
-    (λ d. let z : m ≡ k = omega arith in omega (arith, subst (λ (x : ℕ). l < label_at bs ss x) z b))
-    (cases_lt m k)
+module _ (rs : List Record) (n l : ℕ) (few : n ≤ length rs) (rising : Rising (noted rs n)) where
+  no_later : (d : Record) (i j : ℕ) → i ≤ j → j < n → (get_or rs i d).entry.label ≤ (get_or rs j d).entry.label
+  no_later d i j h k = ⊎_elim
+      (λ (z : i ≡ j). omega (arith, ap (λ (x : ℕ). (get_or rs x d).entry.label) z))
+      (λ z. omega (arith, rises_at rs d n few rising i j (omega (arith, z)) k))
+      (cases_eq i j)
+
+  -- the comparisons with a label rise along the records, as a binary search asks
+  comparisons_rise : IsNonDecreasingBy (λ (r : Record). ordering_index (nat_cmp r.entry.label l)) (take n rs)
+  comparisons_rise i j d h k =
+      let under : j < n = omega (arith, length-take-le n rs few) in
+      let index : Record → ℕ = λ r. ordering_index (nat_cmp r.entry.label l) in
+      let first : index (get_or (take n rs) i d) ≡ index (get_or rs i d) = ap index (get_or-take n rs i d (omega arith)) in
+      let later : index (get_or (take n rs) j d) ≡ index (get_or rs j d) = ap index (get_or-take n rs j d under) in
+      let rise : index (get_or rs i d) ≤ index (get_or rs j d) = index_rises (get_or rs i d).entry.label (get_or rs j d).entry.label l (no_later d i j h under) in
+      omega (arith, first, later, rise)
+
+  -- a binary search ends at the label, or the label is not there
+  pub searched : (r : Result ℕ ℕ) → IsSearchInRange r (length (take n rs)) → IsBinarySearchResult (λ (x : Record). nat_cmp x.entry.label l) (take n rs) r → MatchResult r (λ i. (d : Record) → Some (get_or (take n rs) i d).entry.name.now ≡ name_of (noted rs n) l) (λ i. None ≡ name_of (noted rs n) l)
+  searched (Ok i) within equal = λ d.
+      let under : i < n = omega (arith, within, length-take-le n rs few) in
+      let is = get_or-take n rs i d under in
+      let same : (get_or rs i d).entry.label ≡ l = sym (ap (λ (x : Record). x.entry.label) is) ∙ ranked _ l _ (sym (equal d)) in
+      sym (passes rs d l (suc i) n (omega arith) few (λ k a b e. omega (arith, rises_at rs d n few rising i k (omega arith) b))
+      ∙ ap (λ (es : List Entry). name_of es l) (noted_more rs i d (omega arith))
+      ∙ same_label (entry_of (get_or rs i d)) (noted rs i) l same
+      ∙ ap (λ (x : Record). Some x.entry.name.now) (sym is))
+  searched (Err i) within parted =
+      let at : (k : ℕ) (d : Record) → k < n → (get_or (take n rs) k d).entry.label ≡ (get_or rs k d).entry.label = λ k d h. ap (λ (x : Record). x.entry.label) (get_or-take n rs k d h) in
+      sym (passes_all rs l 0 n (omega arith) few (λ k d a b e. ⊎_elim
+      (λ c. omega (arith, at k d b, ranked _ l _ (sym ((parted comparisons_rise).0 k d (omega arith) c))))
+      (λ c. omega (arith, at k d b, ranked _ l _ (sym ((parted comparisons_rise).1 k d c (omega (arith, length-take-le n rs few))))))
+      (cases_lt k i)))
+
+-- what `ok` gives, from what is known of the two cases
+pub ok_some : (P : ℕ → Type 0) (Q : ℕ → Type 0) (r : Result ℕ ℕ) (x : ℕ) → Some x ≡ result_ok r → MatchResult r P Q → P x
+ok_some P Q (Ok y) x e m = let same : y ≡ x = cc in subst P same m
+ok_some P Q (Err y) x e m = cc
+
+pub ok_none : (P : ℕ → Type 0) (Q : Type 0) (r : Result ℕ ℕ) → None ≡ result_ok r → MatchResult r P (λ _. Q) → Q
+ok_none P Q (Ok y) e m = cc
+ok_none P Q (Err y) e m = m

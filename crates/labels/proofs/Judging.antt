@@ -1,7 +1,7 @@
 -- The bytes that are read are exactly the books, and the first fault is found.
-use Rattle.std.proofs.Common.{◌≡◌, ℕ, zero, suc, ◌+◌, ◌-◌, ◌*◌, ◌<◌, ◌≤◌, false, List, [], ◌∷◌, ◌++◌, length, get_or, take, drop, is_some, is_ok, Some, None, Ok, Err, Option, Result, sym, refl, ap, ◌∙◌, subst, ⊎_elim, zero-add, arith, length-append, length-drop}
+use Rattle.std.proofs.Common.{◌≡◌, ℕ, zero, suc, ◌+◌, ◌-◌, ◌*◌, ◌<◌, ◌≤◌, false, List, [], ◌∷◌, ◌++◌, length, get_or, take, drop, Some, None, Ok, Err, Option, Result, sym, refl, ap, ◌∙◌, subst, ⊎_elim, zero-add, arith, length-append, length-drop}
 use Rattle.std.proofs.lemmas.List.{append_assoc, append-nil, take-append-drop, get_or_append_left, get_or-take, drop-take, take_at, drop_at, drop-append-le, length-take-le, nil_from_length}
-use Rattle.std.proofs.lemmas.Bool.{cases_Bool, cases_lt, true≢false}
+use Rattle.std.proofs.lemmas.Bool.{cases_Bool, cases_lt}
 use Rattle.records.specs.Heads.{length_of, kind_of}
 use Rattle.refusals.specs.declared.Cause.{Cause}
 use Rattle.refusals.specs.declared.Layer.TheVariants.{Book}
@@ -90,7 +90,7 @@ record_is bs p =
     }
 
 some_none : {c : Cause} (o : Option Cause) → o ≡ Some c → o ≡ None → ⊥
-some_none o h k = true≢false (ap is_some (sym h ∙ k))
+some_none o h k = cc
 
 -- an entry whose record has no fault may follow
 fine_follows : (es : List Entry) (bs : List ℕ) → Rising es → fault es bs ≡ None → MayFollow es (first_entry bs)
@@ -131,12 +131,9 @@ judge_on (suc n) es i ds (x ∷ xs) all h b e s =
 pub outcome : (bs : List ℕ) → Outcome bs (read_book bs)
 outcome bs = judge_on (length bs) [] 0 [] bs bs (omega arith) empty refl refl
 
-ok_apart : (r : Result (List Entry) Refusal) (es : List Entry) (f : Refusal) → r ≡ Ok es → r ≡ Err f → ⊥
-ok_apart r es f h k = true≢false (ap is_ok (sym h ∙ k))
-
 -- bytes that are refused are no book
 pub no_book : (bs : List ℕ) (f : Refusal) → read_book bs ≡ Err f → (fs : List Entry) → IsBook fs bs → ⊥
-no_book bs f k fs d = ok_apart (read_book bs) fs f (reads fs bs d) k
+no_book bs f k fs d = let wrong : Ok fs ≡ Err f = sym (reads fs bs d) ∙ k in cc
 
 abbrev entries_in : Result (List Entry) Refusal → List Entry
 entries_in (Ok es) = es

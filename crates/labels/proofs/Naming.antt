@@ -1,12 +1,12 @@
 -- The name that is answered stands beside its label in the book.
-use Rattle.std.proofs.Common.{◌≡◌, ℕ, suc, eqb, List, [], ◌∷◌, is_some, is_ok, Some, None, Ok, Err, Option, Result, sym, refl, ap, ◌∙◌, inl, inr, ⊎_elim, arith}
-use Rattle.std.proofs.lemmas.Bool.{cases_Bool, cond-true, cond-false, eqb-true, eqb-false, true≢false}
+use Rattle.std.proofs.Common.{◌≡◌, ℕ, suc, eqb, List, [], ◌∷◌, Some, None, Ok, Err, Option, Result, sym, refl, ◌∙◌, inl, inr, ⊎_elim, arith}
+use Rattle.std.proofs.lemmas.Bool.{cases_Bool, cond-true, cond-false, eqb-true, eqb-false}
 use Rattle.std.specs.List.{ContainsAt, AllByRecursion}
 use Rattle.refusals.specs.declared.Cause.TheVariants.{UnknownName}
 use Rattle.refusals.specs.declared.Layer.TheVariants.{Book}
 use Rattle.refusals.specs.declared.Refusal.{Refusal}
 use Rattle.refusals.specs.Numbers.{refused}
-use Rattle.labels.specs.Entries.{Entry, counted, entries, name_of, named, read_book}
+use Rattle.labels.specs.Entries.{Entry, name_of, named, read_book}
 use Rattle.labels.specs.Laws.{Named}
 use Rattle.labels.proofs.Judging.{Outcome, outcome, no_book}
 
@@ -18,7 +18,7 @@ has_more : (e x : Entry) (es : List Entry) → ContainsAt es x → ContainsAt (e
 has_more e x es (k, h, a) = (suc k, omega arith, a)
 
 name_found : (es : List Entry) (l : ℕ) (n : List ℕ) → name_of es l ≡ Some n → ContainsAt es (entry l n)
-name_found [] l n h = absurd (true≢false (ap is_some (sym h)))
+name_found [] l n h = cc
 name_found (e ∷ es) l n h = ⊎_elim
     (λ t.
     let same : e.label ≡ l = eqb-true e.label l t in
@@ -31,7 +31,7 @@ name_found (e ∷ es) l n h = ⊎_elim
 name_missing : (es : List Entry) (l : ℕ) → name_of es l ≡ None → AllByRecursion (λ (e : Entry). e.label ≡ l → ⊥) es
 name_missing [] l h = tt
 name_missing (e ∷ es) l h = ⊎_elim
-    (λ t. absurd (true≢false (ap is_some (sym (cond-true (eqb e.label l) (Some e.name) (name_of es l) t) ∙ h))))
+    (λ t. let wrong : Some e.name ≡ None = sym (cond-true (eqb e.label l) (Some e.name) (name_of es l) t) ∙ h in cc)
     (λ f. (eqb-false e.label l f, name_missing es l (sym (cond-false (eqb e.label l) (Some e.name) (name_of es l) f) ∙ h)))
     (cases_Bool (eqb e.label l))
 
@@ -53,13 +53,3 @@ named_law bs l =
       | Err f ↦ λ k o. inr (o (no_book bs f k))
     ] in
     go (read_book bs) refl (outcome bs)
-
-ok_entries : (r : Result (List Entry) Refusal) (n : ℕ) → counted r ≡ Ok n → r ≡ Ok (elim r [ Ok es ↦ es | Err f ↦ [] ])
-ok_entries (Ok es) n h = refl
-ok_entries (Err f) n h = absurd (true≢false (ap is_ok (sym h)))
-
--- the answer, where the check has passed and the name was looked up
-pub named_by : (bs ds : List ℕ) (l n : ℕ) (o : Option (List ℕ)) → ds ≡ bs → counted (read_book bs) ≡ Ok n → o ≡ name_of (entries ds) l → named (read_book bs) l ≡ by_name o
-named_by bs ds l n o e h k =
-    ap (λ (r : Result (List Entry) Refusal). named r l) (ok_entries (read_book bs) n h)
-    ∙ sym (ap by_name (k ∙ ap (λ (x : List ℕ). name_of (entries x) l) e))

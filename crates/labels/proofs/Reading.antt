@@ -1,12 +1,14 @@
 -- One record after the other, as `read-on` has it.
-use Rattle.std.proofs.Common.{◌≡◌, ℕ, zero, suc, ◌+◌, ◌<◌, List, [], ◌∷◌, length, drop, is_some, Some, None, Ok, Err, Option, Result, sym, refl, ap, ◌∙◌, ⊎_elim, arith}
-use Rattle.std.proofs.lemmas.Bool.{cases_Bool, true≢false}
+use Rattle.std.proofs.Common.{◌≡◌, ℕ, zero, suc, ◌+◌, ◌-◌, ◌<◌, ◌≤◌, subst, length-drop, List, [], ◌∷◌, length, drop, Some, None, Ok, Err, Option, Result, sym, refl, ap, ◌∙◌, ⊎_elim, arith}
+use Rattle.std.proofs.lemmas.Bool.{cases_Bool}
+use Rattle.std.proofs.lemmas.List.{drop-drop, drop_all}
 use Rattle.records.specs.Heads.{length_of}
 use Rattle.refusals.specs.declared.Cause.{Cause}
+use Rattle.refusals.specs.declared.Cause.TheVariants.{BadLength}
 use Rattle.refusals.specs.declared.Layer.TheVariants.{Book}
 use Rattle.refusals.specs.declared.Refusal.{Refusal}
 use Rattle.refusals.specs.Numbers.{refused}
-use Rattle.labels.specs.Entries.{Entry, first_entry, bad_length, fault, read_on, read_book, entries, pairs}
+use Rattle.labels.specs.Entries.{Entry, first_entry, bad_length, fault, read_on, read_book, pairs}
 use Rattle.labels.proofs.Faults.{fault_length}
 use Rattle.labels.proofs.Wholes.{Parts, good_parts}
 
@@ -29,16 +31,47 @@ read_end (suc n) es i = refl
 -- a record with no fault is whole
 pub fine_parts : (es : List Entry) (bs : List ℕ) → fault es bs ≡ None → Parts bs
 fine_parts es bs f = ⊎_elim
-    (λ t. absurd (true≢false (ap is_some (sym (fault_length es bs t) ∙ f))))
+    (λ t. let wrong : Some BadLength ≡ None = sym (fault_length es bs t) ∙ f in cc)
     (λ g. good_parts bs g)
     (cases_Bool (bad_length bs))
 
--- the entries of bytes that were read
-pub entries_ok : (bs : List ℕ) (es : List Entry) → read_book bs ≡ Ok es → entries bs ≡ es
-entries_ok bs es h = ap (λ (r : Result (List Entry) Refusal). elim r [ Ok x ↦ x | Err f ↦ [] ]) h
+-- a book is read up to the byte i, with these entries
+pub record Underway (bs : List ℕ) (es : List Entry) (i : ℕ) : Type 0 where
+  pub within : i ≤ length bs
+  pub few : length es ≤ i
+  pub left : read_book bs ≡ read_on (length bs - length es) es i (drop i bs)
 
-pub entries_err : (bs : List ℕ) (f : Refusal) → read_book bs ≡ Err f → entries bs ≡ []
-entries_err bs f h = ap (λ (r : Result (List Entry) Refusal). elim r [ Ok x ↦ x | Err g ↦ [] ]) h
+pub sets_out : (bs : List ℕ) (es : List Entry) → es ≡ [] → Underway bs es 0
+sets_out bs es e =
+    let all : length bs ≡ length bs - 0 = omega arith in
+    subst (λ (xs : List Entry). Underway bs xs 0) (sym e) (record { within = omega arith; few = omega arith; left = ap (λ (k : ℕ). read_on k [] 0 bs) all })
+
+pub goes_on : (bs : List ℕ) (es fs : List Entry) (i j : ℕ) → Underway bs es i → i < length bs → fault es (drop i bs) ≡ None → fs ≡ first_entry (drop i bs) ∷ es → j ≡ i + length_of (drop i bs) → Underway bs fs j × (i < j)
+goes_on bs es fs i j u h f m n =
+    let rest = drop i bs in
+    let parts = fine_parts es rest f in
+    let more : length fs ≡ suc (length es) = ap length m in
+    let fuel : length bs - length es ≡ suc (length bs - length fs) = omega (arith, more, u.few, h) in (
+      record {
+        within = omega (arith, n, parts.fits, length-drop i bs, h);
+        few = omega (arith, n, parts.least, more, u.few);
+        left = u.left
+            ∙ ap (λ (k : ℕ). read_on k es i rest) fuel
+            ∙ read_step (length bs - length fs) es i rest (omega (arith, length-drop i bs, h)) f
+            ∙ ap (λ (xs : List Entry). read_on (length bs - length fs) xs (i + length_of rest) (drop (length_of rest) rest)) (sym m)
+            ∙ ap (read_on (length bs - length fs) fs (i + length_of rest)) (drop-drop (length_of rest) i bs)
+            ∙ ap (λ (k : ℕ). read_on (length bs - length fs) fs k (drop k bs)) (sym n);
+      },
+      omega (arith, n, parts.least),
+    )
+
+pub stops : (bs : List ℕ) (es : List Entry) (i : ℕ) (c : Cause) → Underway bs es i → i < length bs → fault es (drop i bs) ≡ Some c → read_book bs ≡ Err (refused c Book i 0)
+stops bs es i c u h f =
+    let fuel : length bs - length es ≡ suc (length bs - suc (length es)) = omega (arith, u.few, h) in
+    u.left ∙ ap (λ (k : ℕ). read_on k es i (drop i bs)) fuel ∙ read_fault (length bs - suc (length es)) es i (drop i bs) c (omega (arith, length-drop i bs, h)) f
+
+pub arrives : (bs : List ℕ) (es : List Entry) (i : ℕ) → Underway bs es i → length bs ≤ i → read_book bs ≡ Ok es
+arrives bs es i u h = u.left ∙ ap (read_on (length bs - length es) es i) (drop_all i bs h) ∙ read_end (length bs - length es) es i
 
 -- pairs tell entries
 pub pairs_tell : (es fs : List Entry) → pairs es ≡ pairs fs → es ≡ fs

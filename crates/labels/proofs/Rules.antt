@@ -2,8 +2,8 @@
 use Rattle.std.proofs.Common.{◌≡◌, ℕ, ◌<◌, ◌≤◌, true, false, not, eqb, ltb, leb, List, [], ◌∷◌, length, is_some, sym, refl, ap, ◌∙◌, arith}
 use Rattle.std.proofs.lemmas.Bool.{true≢false, and_parts, and_from, ltb-true, lt-ltb, leb-true, le-leb, not-true, not-false, not_from_false, not_from_true, eqb-false, ne_eqb, ltb-false, le-ltb, or_parts, or_from}
 use Rattle.std.proofs.ByRecursion.{All-weaker}
-use Rattle.std.specs.List.{AllByRecursion}
-use Rattle.labels.specs.Entries.{Entry, Rising, name_byte, all_name_bytes, good_name, label_of, above_last, bad_label, bad_name}
+use Rattle.std.specs.List.{AllByRecursion, list_all}
+use Rattle.labels.specs.Entries.{Entry, Rising, name_byte, good_name, label_of, above_last, bad_label, bad_name}
 use Rattle.labels.specs.Laws.{GoodName, MayFollow, IsBook, empty, more}
 use Rattle.labels.proofs.Chains.{other_name, same_name}
 
@@ -20,22 +20,22 @@ byte_from b h =
 byte_to : (b : ℕ) → Byte b → name_byte b ≡ true
 byte_to b h = and_from (leb 33 b) _ (le-leb 33 b h.0) (and_from (leb b 126) (not (eqb b 39)) (le-leb b 126 h.1) (not_from_false (eqb b 39) (ne_eqb b 39 h.2)))
 
-bytes_from : (n : List ℕ) → all_name_bytes n ≡ true → AllByRecursion Byte n
+bytes_from : (n : List ℕ) → list_all name_byte n ≡ true → AllByRecursion Byte n
 bytes_from [] h = tt
-bytes_from (b ∷ n) h = let (x, y) = and_parts (name_byte b) (all_name_bytes n) h in (byte_from b x, bytes_from n y)
+bytes_from (b ∷ n) h = let (x, y) = and_parts (name_byte b) (list_all name_byte n) h in (byte_from b x, bytes_from n y)
 
-bytes_to : (n : List ℕ) → AllByRecursion Byte n → all_name_bytes n ≡ true
+bytes_to : (n : List ℕ) → AllByRecursion Byte n → list_all name_byte n ≡ true
 bytes_to [] h = refl
-bytes_to (b ∷ n) h = and_from (name_byte b) (all_name_bytes n) (byte_to b h.0) (bytes_to n h.1)
+bytes_to (b ∷ n) h = and_from (name_byte b) (list_all name_byte n) (byte_to b h.0) (bytes_to n h.1)
 
 pub good_from : (n : List ℕ) → good_name n ≡ true → GoodName n
 good_from n h =
     let (x, k) = and_parts (ltb 0 (length n)) _ h in
-    let (y, z) = and_parts (leb (length n) 64) (all_name_bytes n) k in
+    let (y, z) = and_parts (leb (length n) 64) (list_all name_byte n) k in
     record { some = ltb-true 0 (length n) x; short = leb-true (length n) 64 y; bytes = bytes_from n z }
 
 pub good_to : (n : List ℕ) → GoodName n → good_name n ≡ true
-good_to n h = and_from (ltb 0 (length n)) _ (lt-ltb 0 (length n) h.some) (and_from (leb (length n) 64) (all_name_bytes n) (le-leb (length n) 64 h.short) (bytes_to n h.bytes))
+good_to n h = and_from (ltb 0 (length n)) _ (lt-ltb 0 (length n) h.some) (and_from (leb (length n) 64) (list_all name_byte n) (le-leb (length n) 64 h.short) (bytes_to n h.bytes))
 
 -- a name that none of the entries has
 pub new_from : (es : List Entry) (n : List ℕ) → is_some (label_of es n) ≡ false → AllByRecursion (λ (d : Entry). d.name ≡ n → ⊥) es

@@ -1,6 +1,6 @@
 -- Whole records.
-use Rattle.std.proofs.Common.{◌≡◌, ℕ, ◌+◌, ◌-◌, ◌≤◌, Bool, true, false, ltb, List, length, drop, sym, ◌∙◌, arith, length-drop, length-take}
-use Rattle.std.proofs.lemmas.Bool.{le-ltb, or_from, or_parts, ltb-false, true≢false}
+use Rattle.std.proofs.Common.{◌≡◌, ℕ, ◌+◌, ◌-◌, ◌≤◌, false, ltb, List, length, drop, arith, length-drop, length-take}
+use Rattle.std.proofs.lemmas.Bool.{le-ltb, or_from, or_parts, ltb-false}
 use Rattle.records.specs.Heads.{length_of}
 use Rattle.labels.specs.Entries.{first_entry, bad_length}
 
@@ -19,13 +19,6 @@ good_parts bs h =
 pub parts_good : (bs : List ℕ) → 6 ≤ length_of bs → length_of bs ≤ length bs → bad_length bs ≡ false
 parts_good bs h k =
     or_from (ltb (length bs) 6) _ (le-ltb _ _ (omega arith)) (or_from (ltb (length_of bs) 6) (ltb (length bs) (length_of bs)) (le-ltb _ _ h) (le-ltb _ _ k))
-
--- a record that ends inside the bytes has no bad length
-pub whole_length : (bs : List ℕ) (s : ℕ) → (6 ≤ length_of (drop s bs)) × (s + length_of (drop s bs) ≤ length bs) → bad_length (drop s bs) ≡ true → ⊥
-whole_length bs s h b =
-    let g : bad_length (drop s bs) ≡ false = parts_good (drop s bs) h.0 (omega (arith, length-drop s bs, h.0, h.1)) in
-    let z : ◌≡◌ {A = Bool} true false = sym b ∙ g in
-    true≢false z
 
 -- a whole record is six bytes and its name
 pub name_length : (bs : List ℕ) → Parts bs → 6 + length (first_entry bs).name ≡ length_of bs

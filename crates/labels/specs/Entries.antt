@@ -1,6 +1,6 @@
 -- The entries of a label book, and the first fault of bytes that are none.
 use Rattle.std.specs.Prelude.{ℕ, zero, suc, ◌+◌, ◌-◌, ◌<◌, Bool, true, cond, not, ◌&&◌, ◌||◌, List, [], ◌∷◌, length, take, drop, is_some, Some, None, Ok, Err, Option, Result, ◌==◌, nat_le, nat_lt}
-use Rattle.std.specs.List.{AllByRecursion}
+use Rattle.std.specs.List.{AllByRecursion, list_all}
 use Rattle.std.specs.Str.{bytes_eq}
 use Rattle.records.specs.Heads.{length_of, kind_of}
 use Rattle.refusals.specs.declared.Cause.{Cause}
@@ -23,14 +23,9 @@ pairs (e ∷ es) = (e.label, e.name) ∷ pairs es
 abbrev pub name_byte : ℕ → Bool
 name_byte b = nat_le 33 b && (nat_le b 126 && not (b == 39))
 
--- All bytes of a name may stand in one.
-abbrev pub all_name_bytes : List ℕ → Bool
-all_name_bytes [] = true
-all_name_bytes (b ∷ bs) = name_byte b && all_name_bytes bs
-
 -- A name has 1 to 64 bytes, and each may stand in one.
 abbrev pub good_name : List ℕ → Bool
-good_name n = nat_lt 0 (length n) && (nat_le (length n) 64 && all_name_bytes n)
+good_name n = nat_lt 0 (length n) && (nat_le (length n) 64 && list_all name_byte n)
 
 -- The label whose name this is.
 abbrev pub label_of : List Entry → List ℕ → Option ℕ

@@ -16,12 +16,9 @@ pub(crate) fn read_entry(bytes: &[u8]) -> Option<Entry<'_>>
     ensures { MatchOption result (bad_length bytes.now ≡ true) (λ e. (bad_length bytes.now ≡ false) × (e.label ≡ (first_entry bytes.now).label) × (e.name.now ≡ (first_entry bytes.now).name)) }
 {
     let head = read_head(bytes)?;
-    let length = head.length as usize;
-    if length < 6 || length > bytes.len() {
-        return None;
-    }
+    let name = bytes.get(6..head.length as usize)?;
     Some(Entry {
         label: head.kind,
-        name: &bytes[6..length],
+        name,
     })
 }

@@ -1,161 +1,184 @@
 // The index of a book's records, which finds a name without comparing it with all others.
-ghost use Rattle.std.specs.Prelude.{◌≡◌, ◌+◌, ◌<◌, ◌≤◌, length, drop, Some, MatchResult, slice_index, slice_set};
+ghost use Rattle.std.specs.Prelude.{◌≡◌, ◌+◌, ◌<◌, ◌≤◌, ◌∷◌, drop, Some, Ok, Err, MatchResult, length, None};
 ghost use Rattle.std.specs.Option.{option_map};
-ghost use Rattle.labels.specs.Entries.{Rising, above_last, label_of, name_of, bad_label, bad_name, fault};
-ghost use Rattle.labels.specs.Index.{Bytes, known, record_at, Indexed, Noted};
+ghost use Rattle.std.proofs.Props.{props};
+ghost use Rattle.records.specs.Heads.{length_of};
+ghost use Rattle.labels.specs.Entries.{Rising, above_last, label_of, name_of, bad_label, bad_name, first_entry, fault, read_book};
+ghost use Rattle.labels.specs.Index.{known, Heads, Links, Noted};
 
 use crate::entry::{Entry, read_entry};
-use crate::names::{bucket, is_good_name};
-use refusals::Cause;
+use crate::names::{Key, is_good_name};
+use refusals::{Cause, Layer, Refusal};
 
 const LARGEST: u16 = 32767;
 
 const MOST: usize = 4096;
 
-/// Where each record starts, for each record the one before it in its bucket, and for each bucket its last record; a record is named by its number plus 1, and 0 is none.
+/// A record that was read: its entry, and the number of the record before it in its bucket.
 #[derive(Clone, Copy)]
-pub(crate) struct Index {
-    starts: [usize; 4096],
-    before: [u16; 4096],
-    last: [u16; 4096],
+pub(crate) struct Record<'a> {
+    pub(crate) entry: Entry<'a>,
+    pub(crate) before: Option<u16>,
+}
+
+/// The records that were read, and for each bucket the number of its last one.
+// Kept as arrays of fixed size with a count: the index of a book takes no heap.
+#[derive(Clone, Copy)]
+pub(crate) struct Tables<'a> {
+    records: [Record<'a>; MOST],
+    last: [Option<u16>; MOST],
     count: usize,
 }
 
-impl Index {
+/// The lent bytes of a book, and the tables of the records that were read in them.
+#[derive(Clone, Copy)]
+pub(crate) struct Index<'a> {
+    bytes: &'a [u8],
+    tables: Tables<'a>,
+    ghost full: { length tables.records ≡ 4096 },
+    ghost few: { tables.count ≤ 4096 },
+    ghost heads: { Heads tables } by { Prim.hlevel props },
+    ghost links: { Links tables } by { Prim.hlevel props },
+}
+
+impl<'a> Tables<'a> {
+    /// Notes an entry as the last record, in its bucket too.
+    fn note(&mut self, label: u16, key: Key<'a>)
+        requires { self.old.count < 4096 }
+        ensures { Noted self.old self.new (record { label = label; name = key.entry.name }) }
+    {
+        let entry = Entry {
+            label,
+            name: key.name,
+        };
+        self.records[self.count] = Record {
+            entry,
+            before: self.last[key.bucket],
+        };
+        self.last[key.bucket] = Some(self.count as u16);
+        self.count += 1;
+    }
+}
+
+impl<'a> Index<'a> {
     /// An index of no records.
-    pub(crate) fn new() -> Index
-        ensures none { result.count ≡ 0 }
-        ensures right { (bs : Bytes) → Indexed bs result }
+    pub(crate) fn new(bytes: &'a [u8]) -> Index<'a>
+        ensures none { result.tables.count ≡ 0 }
+        ensures bytes { result.bytes.now ≡ bytes.now }
     {
+        let none = Record {
+            entry: Entry {
+                label: 0,
+                name: &[],
+            },
+            before: None,
+        };
         Index {
-            starts: [0; 4096],
-            before: [0; 4096],
-            last: [0; 4096],
-            count: 0,
+            bytes,
+            tables: Tables {
+                records: [none; MOST],
+                last: [None; MOST],
+                count: 0,
+            },
         }
     }
 
-    /// How many records the index knows.
+    /// How many records were read.
     pub(crate) fn count(&self) -> usize
-        ensures { result ≡ self.now.count }
+        ensures { result ≡ length (known self.now.tables) }
     {
-        self.count
-    }
-
-    /// The entry of a record that the index knows.
-    fn entry<'a>(&self, bytes: &'a [u8], number: usize) -> Entry<'a>
-        requires right { Indexed bytes.now self.now }
-        requires within { number < self.now.count }
-        ensures label { result.label ≡ (record_at bytes.now self.now.starts number).label }
-        ensures name { result.name.now ≡ (record_at bytes.now self.now.starts number).name }
-    {
-        match read_entry(&bytes[self.starts[number]..]) {
-            Some(entry) => entry,
-            None => unreachable(),
-        }
+        self.tables.count
     }
 
     /// The label that has this name.
-    pub(crate) fn label(&self, bytes: &[u8], name: &[u8]) -> Option<u16>
-        requires { Indexed bytes.now self.now }
-        ensures { result ≡ label_of (known bytes.now self.now) name.now }
+    pub(crate) fn label(&self, name: &[u8]) -> Option<u16>
+        ensures { result ≡ label_of (known self.now.tables) name.now }
     {
-        let mut next = usize::from(self.last[bucket(name)]);
-        while next > 0 {
-            let number = next - 1;
-            let entry = self.entry(bytes, number);
-            if entry.name == name {
-                return Some(entry.label);
+        self.find(Key::of(name))
+    }
+
+    /// The label that has the name of this key.
+    fn find(&self, key: Key) -> Option<u16>
+        ensures { result ≡ label_of (known self.now.tables) key.entry.name.now }
+    {
+        let mut next = self.tables.last[key.bucket];
+        while let Some(number) = next {
+            let record = self.tables.records[usize::from(number)];
+            if record.entry.name == key.name {
+                return Some(record.entry.label);
             }
-            next = usize::from(self.before[number]);
+            next = record.before;
         }
         None
     }
 
     /// The name of a label, where the labels rise.
-    pub(crate) fn name<'a>(&self, bytes: &'a [u8], label: u16) -> Option<&'a [u8]>
-        requires right { Indexed bytes.now self.now }
-        requires rising { Rising (known bytes.now self.now) }
-        ensures { option_map (λ x. x.now) result ≡ name_of (known bytes.now self.now) label }
+    pub(crate) fn name(&self, label: u16) -> Option<&'a [u8]>
+        requires { Rising (known self.now.tables) }
+        ensures { option_map (λ x. x.now) result ≡ name_of (known self.now.tables) label }
     {
-        let mut low = 0;
-        let mut high = self.count;
-        while low < high {
-            let middle = low + (high - low) / 2;
-            let entry = self.entry(bytes, middle);
-            if entry.label == label {
-                return Some(entry.name);
-            }
-            if entry.label < label {
-                low = middle + 1;
-            } else {
-                high = middle;
-            }
-        }
-        None
+        let records = &self.tables.records[..self.tables.count];
+        let number = records
+            .binary_search_by_key(&label, |record| record.entry.label)
+            .ok()?;
+        Some(records[number].entry.name)
     }
 
     /// Whether a label is above the last one.
-    fn is_above(&self, bytes: &[u8], label: u16) -> bool
-        requires { Indexed bytes.now self.now }
-        ensures { result ≡ above_last (known bytes.now self.now) label }
+    fn is_above(&self, label: u16) -> bool
+        ensures { result ≡ above_last (known self.now.tables) label }
     {
-        if self.count == 0 {
-            return true;
-        }
-        self.entry(bytes, self.count - 1).label < label
+        let records = &self.tables.records[..self.tables.count];
+        records.last().is_none_or(|last| last.entry.label < label)
     }
 
     /// Whether a label cannot follow those that are known.
-    fn is_bad_label(&self, bytes: &[u8], label: u16) -> bool
-        requires { Indexed bytes.now self.now }
-        ensures { result ≡ bad_label (known bytes.now self.now) label }
+    fn is_bad_label(&self, label: u16) -> bool
+        ensures { result ≡ bad_label (known self.now.tables) label }
     {
-        label > LARGEST || !self.is_above(bytes, label)
+        label > LARGEST || !self.is_above(label)
     }
 
     /// Whether a name cannot follow those that are known.
-    fn is_bad_name(&self, bytes: &[u8], name: &[u8]) -> bool
-        requires { Indexed bytes.now self.now }
-        ensures { result ≡ bad_name (known bytes.now self.now) name.now }
+    fn is_bad_name(&self, key: Key) -> bool
+        ensures { result ≡ bad_name (known self.now.tables) key.entry.name.now }
     {
-        !is_good_name(name) || self.label(bytes, name).is_some()
-    }
-
-    /// Notes the record that starts at a byte as the last, in its bucket too.
-    fn note(&mut self, start: usize, bucket: usize)
-        requires { (self.old.count < 4096) × (bucket < 4096) }
-        ensures starts { self.new.starts ≡ slice_set self.old.starts self.old.count start }
-        ensures before { self.new.before ≡ slice_set self.old.before self.old.count (slice_index self.old.last bucket) }
-        ensures last { self.new.last ≡ slice_set self.old.last bucket (self.old.count + 1) }
-        ensures count { self.new.count ≡ self.old.count + 1 }
-    {
-        let number = self.count;
-        self.starts[number] = start;
-        self.before[number] = self.last[bucket];
-        self.last[bucket] = (number + 1) as u16;
-        self.count = number + 1;
+        !is_good_name(key.name) || self.find(key).is_some()
     }
 
     /// Reads the record at a byte, behind those that are known, and answers where the next starts.
-    pub(crate) fn read_record(&mut self, bytes: &[u8], at: usize) -> Result<usize, Cause>
-        requires right { Indexed bytes.now self.old }
-        requires within { at ≤ length bytes.now }
-        ensures { MatchResult result (Noted bytes.now at self.old self.new) (λ c. fault (known bytes.now self.old) (drop at bytes.now) ≡ Some c) }
+    fn read_record(&mut self, at: usize) -> Result<usize, Cause>
+        requires within { at ≤ length self.old.bytes.now }
+        ensures same { self.new.bytes.now ≡ self.old.bytes.now }
+        ensures read { MatchResult result (λ next. (fault (known self.old.tables) (drop at self.old.bytes.now) ≡ None) × (known self.new.tables ≡ first_entry (drop at self.old.bytes.now) ∷ known self.old.tables) × (next ≡ at + length_of (drop at self.old.bytes.now))) (λ c. fault (known self.old.tables) (drop at self.old.bytes.now) ≡ Some c) }
     {
-        let Some(entry) = read_entry(&bytes[at..]) else {
-            return Err(Cause::BadLength);
-        };
-        if self.is_bad_label(bytes, entry.label) {
+        let entry = read_entry(&self.bytes[at..]).ok_or(Cause::BadLength)?;
+        if self.is_bad_label(entry.label) {
             return Err(Cause::BadLabel);
         }
-        if self.is_bad_name(bytes, entry.name) {
+        let key = Key::of(entry.name);
+        if self.is_bad_name(key) {
             return Err(Cause::BadName);
         }
-        if self.count >= MOST {
+        if self.tables.count >= MOST {
             return Err(Cause::TooMany);
         }
-        self.note(at, bucket(entry.name));
+        self.tables.note(entry.label, key);
         Ok(at + 6 + entry.name.len())
+    }
+
+    /// The index of all records of a book, or its first fault.
+    pub(crate) fn read(bytes: &'a [u8]) -> Result<Index<'a>, Refusal>
+        ensures { MatchResult result (λ x. (x.bytes.now ≡ bytes.now) × (read_book bytes.now ≡ Ok (known x.tables))) (λ f. read_book bytes.now ≡ Err f) }
+    {
+        let mut index = Index::new(bytes);
+        let mut at = 0;
+        // Kept as `while`: each record says where the next one starts, so there is nothing to go over.
+        while at < bytes.len() {
+            at = index
+                .read_record(at)
+                .map_err(|cause| Refusal::at(cause, Layer::Book, at))?;
+        }
+        Ok(index)
     }
 }

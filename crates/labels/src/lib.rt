@@ -12,7 +12,6 @@ pub mod book;
 mod entry;
 mod index;
 mod names;
-mod scan;
 
 /// Checks a book: answers the number of its records, or refuses it by its first fault.
 pub fn check(bytes: &[u8]) -> Result<usize, Refusal>
@@ -30,8 +29,6 @@ pub fn name_of(bytes: &[u8], label: u16) -> Result<&[u8], Refusal>
 {
     let (book, checked) = Book::open(bytes);
     checked?;
-    match book.name(label) {
-        Some(name) => Ok(name),
-        None => Err(Refusal::at(Cause::UnknownName, Layer::Book, 0)),
-    }
+    book.name(label)
+        .ok_or(Refusal::at(Cause::UnknownName, Layer::Book, 0))
 }

@@ -15,11 +15,10 @@ pub struct Head {
 pub fn read_head(bytes: &[u8]) -> Option<Head>
     ensures { result ≡ head_of bytes.now }
 {
-    if bytes.len() < 6 {
-        return None;
-    }
+    let (length, rest) = bytes.split_first_chunk::<4>()?;
+    let kind = rest.first_chunk::<2>()?;
     Some(Head {
-        length: u32::from_le_bytes([bytes[0], bytes[1], bytes[2], bytes[3]]),
-        kind: u16::from_le_bytes([bytes[4], bytes[5]]),
+        length: u32::from_le_bytes(*length),
+        kind: u16::from_le_bytes(*kind),
     })
 }

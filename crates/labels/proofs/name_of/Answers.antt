@@ -1,20 +1,14 @@
--- The name is looked up in the entries of a book that passed its check.
-use Rattle.std.proofs.Common.{◌≡◌, Some, None, Ok, Err, sym, ap, ◌∙◌, subst}
+-- What is answered for a name is right.
+use Rattle.std.proofs.Common.{◌≡◌, Ok, Err, MatchResult, subst, rules}
+use Rattle.std.proofs.lemmas.Result.{MatchResult-weaker}
 use Rattle.labels.specs.Entries.{named, read_book}
 use Rattle.labels.specs.Laws.{Named}
-use Rattle.labels.proofs.Naming.{named_by, named_law}
+use Rattle.labels.proofs.Naming.{named_law}
 use Rattle.labels.proofs.name_of.Goals as goal
 
-pub returns-in-Some : goal.returns-in-Some
-returns-in-Some c =
+pub returns-clause-law : goal.returns-clause-law
+returns-clause-law c =
     let bs = c.args.bytes.now in
     let l = c.args.label in
-    let value : named (read_book bs) l ≡ Ok c.in-Some.name.now = named_by bs _ l _ (Some c.in-Some.name.now) c.open-checked.ensures.book (sym c.open-checked.ensures.check ∙ c.in_ok-checked.was) c.in-Some.ensures in
-    record { value = value; law = subst (Named bs l) value (named_law bs l) }
-
-pub returns-in-None : goal.returns-in-None
-returns-in-None c =
-    let bs = c.args.bytes.now in
-    let l = c.args.label in
-    let value : named (read_book bs) l ≡ Err c.at.result = named_by bs _ l _ None c.open-checked.ensures.book (sym c.open-checked.ensures.check ∙ c.in_ok-checked.was) c.in-None.ensures ∙ ap Err (sym c.at.ensures) in
-    record { value = value; law = subst (Named bs l) value (named_law bs l) }
+    let value : MatchResult c.ok_or.result (λ n. named (read_book bs) l ≡ Ok n.now) (λ f. named (read_book bs) l ≡ Err f) = search rules in
+    MatchResult-weaker c.ok_or.result value (λ n e. subst (Named bs l) e (named_law bs l)) (λ f e. subst (Named bs l) e (named_law bs l))

@@ -6,12 +6,7 @@ use Rattle.labels.proofs.Reading.{pairs_tell}
 use Rattle.labels.proofs.book.Book.name.Goals as goal
 
 pub name-requires : goal.name-requires
-name-requires c =
-    let b = c.args.self.now in
-    record {
-      right = record { few = b.few; whole = b.whole; heads = b.heads; links = b.links };
-      rising = subst Rising (sym (pairs_tell _ _ b.listed)) (entries_rise b.bytes.now);
-    }
+name-requires c = let b = c.args.self.now in subst Rising (sym (pairs_tell _ _ b.listed)) (entries_rise b.index.bytes.now)
 
 pub returns : goal.returns
 returns c = c.name.ensures ∙ ap (λ es. name_of es c.args.label) (pairs_tell _ _ c.args.self.now.listed)

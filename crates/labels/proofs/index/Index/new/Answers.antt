@@ -1,7 +1,7 @@
 -- Nothing is known, and each bucket is empty.
-use Rattle.std.proofs.Common.{refl}
-use Rattle.labels.proofs.Chains.{none_indexed}
+use Rattle.std.proofs.Common.{None}
+use Rattle.std.proofs.lemmas.List.{get_or-replicate}
 use Rattle.labels.proofs.index.Index.new.Goals as goal
 
-pub returns : goal.returns
-returns c = record { none = refl; right = λ bs. none_indexed bs _ refl refl }
+pub invariant_of-result-clause-heads : goal.invariant_of-result-clause-heads
+invariant_of-result-clause-heads c = λ b h. get_or-replicate 4096 b None None h

@@ -1,80 +1,62 @@
--- The tests of a record in their order, and the note of a record that passes them.
-use Rattle.std.proofs.Common.{◌≡◌, ℕ, ◌<◌, Bool, true, false, List, length, drop, sym, ap, ◌∙◌, arith, length-drop, rules}
-use Rattle.std.proofs.lemmas.List.{take_rest}
+-- The count is tested last, and a record that passes the tests is noted.
+use Rattle.std.proofs.Common.{◌≡◌, ◌<◌, ◌∷◌, List, ℕ, false, length, drop, sym, ap, ◌∙◌, arith, rules}
+use Rattle.std.proofs.lemmas.List.{take_rest, length-set}
+use Rattle.std.specs.Result.{result_ok}
+use Rattle.labels.specs.declared.entry.Entry.{Entry as Lent}
 use Rattle.labels.specs.Entries.{Entry, bad_length, bad_label, bad_name, first_entry}
-use Rattle.labels.specs.Index.{bucket_of, known}
-use Rattle.labels.proofs.Chains.{Note, note_known, note_indexed, length_noted}
-use Rattle.labels.proofs.Faults.{fault_length, fault_label, fault_name, fault_many, fault_none}
+use Rattle.labels.specs.Index.{known}
+use Rattle.labels.proofs.Chains.{length_noted, note_known, note_heads, note_links}
+use Rattle.labels.proofs.Faults.{fault_many, fault_none}
 use Rattle.labels.proofs.Wholes.{good_parts, name_length}
 use Rattle.labels.proofs.index.Index.read_record.Goals as goal
 
--- the same test of the label, and of the name, that the record has
-label_test : (es : List Entry) (r s : List ℕ) (l : ℕ) (t : Bool) → l ≡ (first_entry r).label → r ≡ s → t ≡ bad_label es l → bad_label es (first_entry s).label ≡ t
-label_test es r s l t e d h = sym (h ∙ ap (bad_label es) (e ∙ ap (λ x. (first_entry x).label) d))
+-- an entry that was read, and the tests that it passed
+record Passed (es : List Entry) (r : List ℕ) (e : Lent) : Type 0 where
+  long : bad_length r ≡ false
+  label : bad_label es (first_entry r).label ≡ false
+  name : bad_name es (first_entry r).name ≡ false
+  labelled : e.label ≡ (first_entry r).label
+  named : e.name.now ≡ (first_entry r).name
 
-name_test : (es : List Entry) (r s n : List ℕ) (t : Bool) → n ≡ (first_entry r).name → r ≡ s → t ≡ bad_name es n → bad_name es (first_entry s).name ≡ t
-name_test es r s n t e d h = sym (h ∙ ap (bad_name es) (e ∙ ap (λ x. (first_entry x).name) d))
+passed : (es : List Entry) (s r : List ℕ) (e : Lent) → s ≡ r → (bad_length s ≡ false) × (e.label ≡ (first_entry s).label) × (e.name.now ≡ (first_entry s).name) → false ≡ bad_label es e.label → false ≡ bad_name es e.name.now → Passed es r e
+passed es s r e is h l n =
+    let labelled : e.label ≡ (first_entry r).label = h.1 ∙ ap (λ x. (first_entry x).label) is in
+    let named : e.name.now ≡ (first_entry r).name = h.2 ∙ ap (λ x. (first_entry x).name) is in
+    record { long = sym (ap bad_length is) ∙ h.0; label = sym (l ∙ ap (bad_label es) labelled); name = sym (n ∙ ap (bad_name es) named); labelled = labelled; named = named }
 
-pub returns-in_default : goal.returns-in_default
-returns-in_default c =
-    let bs = c.args.bytes.now in
-    let i = c.args.at in
-    let es = known bs c.args.self.now in
-    let rest = take_rest bs i in
-    fault_length es (drop i bs) (sym (ap bad_length rest) ∙ c.in_default.ensures)
-
-pub returns-then-is_bad_label : goal.returns-then-is_bad_label
-returns-then-is_bad_label c =
-    let bs = c.args.bytes.now in
-    let i = c.args.at in
-    let es = known bs c.args.self.now in
-    let rest = take_rest bs i in
-    let long : bad_length (drop i bs) ≡ false = sym (ap bad_length rest) ∙ c.in-Some.ensures.0 in
-    fault_label es (drop i bs) long (label_test es _ (drop i bs) _ true c.in-Some.ensures.1 rest c.if-is_bad_label.ensures)
-
-pub returns-then-is_bad_name : goal.returns-then-is_bad_name
-returns-then-is_bad_name c =
-    let bs = c.args.bytes.now in
-    let i = c.args.at in
-    let es = known bs c.args.self.now in
-    let rest = take_rest bs i in
-    let long : bad_length (drop i bs) ≡ false = sym (ap bad_length rest) ∙ c.in-Some.ensures.0 in
-    let label : bad_label es (first_entry (drop i bs)).label ≡ false = label_test es _ (drop i bs) _ false c.in-Some.ensures.1 rest c.if-is_bad_label.ensures in
-    fault_name es (drop i bs) long label (name_test es _ (drop i bs) _ true c.in-Some.ensures.2 rest c.if-is_bad_name.ensures)
-
-pub returns-then-self-ge-MOST : goal.returns-then-self-ge-MOST
-returns-then-self-ge-MOST c =
-    let bs = c.args.bytes.now in
-    let i = c.args.at in
-    let es = known bs c.args.self.now in
-    let rest = take_rest bs i in
-    let long : bad_length (drop i bs) ≡ false = sym (ap bad_length rest) ∙ c.in-Some.ensures.0 in
-    let label : bad_label es (first_entry (drop i bs)).label ≡ false = label_test es _ (drop i bs) _ false c.in-Some.ensures.1 rest c.if-is_bad_label.ensures in
-    let name : bad_name es (first_entry (drop i bs)).name ≡ false = name_test es _ (drop i bs) _ false c.in-Some.ensures.2 rest c.if-is_bad_name.ensures in
-    fault_many es (drop i bs) long label name (omega (arith, length_noted bs c.args.self.now.starts c.args.self.now.count))
-
-pub returns : goal.returns
-returns c =
-    let bs = c.args.bytes.now in
-    let i = c.args.at in
-    let es = known bs c.args.self.now in
-    let rest = take_rest bs i in
-    let long : bad_length (drop i bs) ≡ false = sym (ap bad_length rest) ∙ c.in-Some.ensures.0 in
-    let label : bad_label es (first_entry (drop i bs)).label ≡ false = label_test es _ (drop i bs) _ false c.in-Some.ensures.1 rest c.if-is_bad_label.ensures in
-    let name : bad_name es (first_entry (drop i bs)).name ≡ false = name_test es _ (drop i bs) _ false c.in-Some.ensures.2 rest c.if-is_bad_name.ensures in
+pub returns-then-self-ge-MOST-clause-read : goal.returns-then-self-ge-MOST-clause-read
+returns-then-self-ge-MOST-clause-read c =
     let x = c.args.self.now in
-    let y = c.note.new.self in
-    let parts = good_parts (drop i bs) long in
-    let named : c.in-Some.entry.name.now ≡ (first_entry (drop i bs)).name = c.in-Some.ensures.2 ∙ ap (λ r. (first_entry r).name) rest in
-    let noted : Note x y i c.bucket.result = record { starts = c.note.ensures.starts; before = c.note.ensures.before; last = c.note.ensures.last; count = c.note.ensures.count } in
-    let ls : length x.starts ≡ 4096 = search rules in
-    let lb : length x.before ≡ 4096 = search rules in
-    let ll : length x.last ≡ 4096 = search rules in
-    let room : x.count < 4096 = omega arith in
-    let few : length es < 4096 = omega (arith, length_noted bs x.starts x.count) in
+    let t = x.tables in
+    let rest = drop c.args.at x.bytes.now in
+    let was = c.ok_or.ensures.ok_part ∙ ap result_ok c.in_ok-entry.was in
+    let p = passed (known t) _ rest c.in_ok-entry.entry (take_rest x.bytes.now c.args.at) (rw was at c.read_entry.ensures) c.if-is_bad_label.ensures (c.if-is_bad_name.ensures ∙ ap (bad_name _) c.of-key.ensures) in
+    fault_many (known t) rest p.long p.label p.name (omega (arith, length_noted t.records t.count (omega (arith, x.full, x.few))))
+
+pub invariant_of-self : goal.invariant_of-self
+invariant_of-self c =
+    let x = c.args.self.now in
+    let s = x.tables in
+    let t = c.note.new.self in
+    let room : s.count < length s.records = omega (arith, x.full) in
+    let long : length s.last ≡ 4096 = search rules in
     record {
-      right = note_indexed bs x y i c.bucket.result c.requires.right noted room ls lb ll (c.bucket.ensures.value ∙ ap bucket_of named) c.bucket.ensures.bound parts.least (omega (arith, parts.fits, length-drop i bs, c.requires.within));
-      fine = fault_none es (drop i bs) long label name few;
-      more = note_known bs x y i c.bucket.result noted (omega arith);
-      next = omega (arith, ap length named, name_length (drop i bs) parts);
+      full = ap length c.note.ensures.records ∙ length-set s.records s.count _ ∙ x.full;
+      few = omega (arith, c.note.ensures.count);
+      heads = note_heads s t _ c.note.ensures room long x.heads;
+      links = note_links s t _ c.note.ensures room x.heads x.links;
     }
+
+pub returns-clause-read : goal.returns-clause-read
+returns-clause-read c =
+    let x = c.args.self.now in
+    let s = x.tables in
+    let t = c.note.new.self in
+    let rest = drop c.args.at x.bytes.now in
+    let room : s.count < length s.records = omega (arith, x.full) in
+    let was = c.ok_or.ensures.ok_part ∙ ap result_ok c.in_ok-entry.was in
+    let p = passed (known s) _ rest c.in_ok-entry.entry (take_rest x.bytes.now c.args.at) (rw was at c.read_entry.ensures) c.if-is_bad_label.ensures (c.if-is_bad_name.ensures ∙ ap (bad_name _) c.of-key.ensures) in (
+      fault_none (known s) rest p.long p.label p.name (omega (arith, length_noted s.records s.count (omega arith))),
+      note_known s t _ c.note.ensures room ∙ (λ i. record { label = p.labelled i; name = (c.of-key.ensures ∙ p.named) i } ∷ known s),
+      omega (arith, ap length p.named, name_length rest (good_parts rest p.long)),
+    )

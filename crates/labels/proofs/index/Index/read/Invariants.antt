@@ -1,0 +1,14 @@
+-- What is left of the bytes gives the entries behind those that are known.
+use Rattle.std.proofs.Common.{◌≡◌, ◌-◌, length}
+use Rattle.labels.specs.Index.{known}
+use Rattle.labels.proofs.Reading.{Underway}
+use Rattle.labels.proofs.index.Index.read.Given as goal
+
+abbrev pub invariant-loop-at : goal.invariant-loop-at
+invariant-loop-at l = record {
+  bytes : l.index.bytes.now ≡ l.bytes;
+  underway : Underway l.bytes (known l.index.tables) l.at;
+}
+
+abbrev pub decreases-loop-at : goal.decreases-loop-at
+decreases-loop-at l = length l.bytes - l.at
