@@ -13,15 +13,9 @@ fn record_of(label: u16, size: usize) -> [u8; 6]
     requires { size ≤ 4096 }
     ensures { result ≡ node_bytes (record { label = label; size = size }) }
 {
-    let length = RECORD_BYTES * size;
-    [
-        (length % 256) as u8,
-        (length / 256 % 256) as u8,
-        (length / 256 / 256 % 256) as u8,
-        (length / 256 / 256 / 256 % 256) as u8,
-        (label % 256) as u8,
-        (label / 256 % 256) as u8,
-    ]
+    let [a, b, c, d] = ((RECORD_BYTES * size) as u32).to_le_bytes();
+    let [low, high] = label.to_le_bytes();
+    [a, b, c, d, low, high]
 }
 
 /// Writes a tree as an image into the beginning of some bytes, and answers how many it took.

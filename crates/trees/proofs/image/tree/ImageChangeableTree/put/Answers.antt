@@ -1,4 +1,4 @@
--- What the proof of `image::tree::ImageChangeable::put` is asked to show.
+-- What the proof of `image::tree::ImageChangeableTree::put` is asked to show.
 use Rattle.std.proofs.Common.{◌/◌, ◌<◌, length, arith}
 use Rattle.trees.specs.Imaging.{many}
 use Rattle.trees.specs.ImagePuts.{length_kept, few_kept}
@@ -8,5 +8,5 @@ pub store-requires : goal.store-requires
 store-requires c =
     let s = c.args.self.now in
     let bs = s.bytes.now in
-    let lt : c.args.place < length bs / 6 = omega (arith, length_kept s.sound bs s.leaf c.if-self.true) in
-    (omega (arith, many bs), (omega (arith, few_kept s.sound bs c.if-self.true s.checked), (omega arith, c.if-self.true)))
+    let lt : c.args.place < length bs / 6 = omega (arith, length_kept s.leaf bs c.in-None.is) in
+    (omega (arith, many bs), (omega (arith, few_kept s.leaf bs c.in-None.is s.checked), (c.in_ok-check_label.ensures, c.in-None.is)))

@@ -2,5 +2,5 @@
 use Rattle.trees.specs.OutlinePuts.{length_kept}
 use Rattle.trees.proofs.outline.tree.OutlineTree.places.Goals as goal
 
-pub returns-then-self : goal.returns-then-self
-returns-then-self c = length_kept _ _ _ c.if-self.true
+pub returns-in-None : goal.returns-in-None
+returns-in-None c = length_kept _ _ c.in-None.is

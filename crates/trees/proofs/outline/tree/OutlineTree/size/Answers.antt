@@ -6,4 +6,4 @@ use Rattle.trees.proofs.outline.tree.OutlineTree.size.Goals as goal
 pub span-requires : goal.span-requires
 span-requires c =
     let s = c.args.self.now in
-    (omega (arith, length_kept s.sound s.records.now s.leaf c.if-self.true), few_kept s.sound s.records.now c.if-self.true s.checked)
+    (omega (arith, length_kept s.leaf s.records.now c.in-None.is), few_kept s.leaf s.records.now c.in-None.is s.checked)
