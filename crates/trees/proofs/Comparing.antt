@@ -14,10 +14,6 @@ use Rattle.trees.proofs.Relabel.{relabel_goes_back}
 use Rattle.trees.proofs.OutlineOf.{outline_meant}
 use Rattle.trees.proofs.ImageOf.{image_meant}
 
--- trees of different lengths differ
-pub not_same : (m n : Forest) → (length m ≡ length n → ⊥) → same m n ≡ false
-not_same m n h = ⊎_elim (λ t. absurd (h (ap length (same_true m n t)))) (λ f. f) (cases_Bool (same m n))
-
 abbrev both_here : Forest → Forest → ℕ → Bool
 both_here m n p = same_node (get_or m p no_node) (get_or n p no_node)
 

@@ -15,6 +15,7 @@ fn same_at<A: Tree, B: Tree>(a: &A, b: &B, place: usize) -> bool
 }
 
 /// Whether two trees, of whatever makes, are the same tree: just then they answer every question alike.
+#[tactic(auto, using(crate::proofs::Same::same_is_equal, crate::proofs::Comparing::makes_agree))]
 pub fn same_tree<A: Tree, B: Tree>(a: &A, b: &B) -> bool
     ensures value { result ≡ same (A.Meant.meaning a.now) (B.Meant.meaning b.now) }
     ensures alike { ((result ≡ true → Alike (A.Meant.meaning a.now) (B.Meant.meaning b.now))) × ((Alike (A.Meant.meaning a.now) (B.Meant.meaning b.now) → result ≡ true)) }
@@ -25,6 +26,7 @@ pub fn same_tree<A: Tree, B: Tree>(a: &A, b: &B) -> bool
 }
 
 /// Puts a label at a place, and answers the label that stood there, which takes the change back.
+#[tactic(auto, using(crate::proofs::Relabel::relabel_goes_back, crate::proofs::Relabel::relabel_keeps_the_law))]
 pub fn replace_label<T: ChangeableTree>(
     tree: &mut T,
     place: usize,

@@ -9,7 +9,7 @@ use crate::limits::RECORD_BYTES;
 use refusals::{Cause, Layer, Refusal};
 
 /// The record of a node.
-fn record_of(label: u16, size: usize) -> [u8; 6]
+fn record_of(label: u16, size: usize) -> [u8; RECORD_BYTES]
     requires { size ≤ 4096 }
     ensures { result ≡ node_bytes (record { label = label; size = size }) }
 {

@@ -37,7 +37,7 @@ fn checked_size(bytes: &[u8], place: usize, depth: usize, end: usize) -> Result<
         Err(Cause::BadLength)
     } else if head.kind > MAX_LABEL {
         Err(Cause::BadLabel)
-    } else if place >= MAX_PLACES || depth > MAX_DEPTH as usize {
+    } else if place >= MAX_PLACES || depth > usize::from(MAX_DEPTH) {
         Err(Cause::TooMany)
     } else {
         Ok(size)
@@ -45,6 +45,7 @@ fn checked_size(bytes: &[u8], place: usize, depth: usize, end: usize) -> Result<
 }
 
 /// Checks bytes, and answers how many places their tree has.
+#[tactic(auto, using(crate::proofs::ImageOf::one_image))]
 pub fn check_image(bytes: &[u8]) -> Result<usize, Refusal>
     ensures value { result ≡ image_answer bytes.now }
     ensures exact { TakesImages bytes.now result }

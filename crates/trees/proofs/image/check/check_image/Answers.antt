@@ -1,9 +1,9 @@
 -- What the proof of `image::check::check_image` is asked to show.
-use Rattle.std.proofs.Common.{◌≡◌, ◌+◌, ◌-◌, ◌/◌, Some, None, Err, length, reverse, sym, ap, subst, ◌∙◌, arith, rules, below_more}
+use Rattle.std.proofs.Common.{◌≡◌, ◌+◌, ◌-◌, ◌/◌, Some, None, Err, length, reverse, sym, ap, subst, ◌∙◌, arith, below_more}
 use Rattle.std.specs.Prelude.{slice_get}
 use Rattle.std.specs.Option.{unwrap_or}
 use Rattle.std.proofs.lemmas.Bool.{eqb-false}
-use Rattle.trees.specs.Images.{around, image_nodes, image_fault, image_answer, inner_end}
+use Rattle.trees.specs.Images.{around, image_nodes, image_fault, inner_end}
 use Rattle.trees.specs.Opens.{Opened}
 use Rattle.trees.specs.Imaging.{fit, Fit, image_stops, takes, Taken}
 use Rattle.trees.proofs.ImageOf.{takes_images, one_image}
@@ -41,10 +41,4 @@ returns c =
     let bs = c.args.bytes.now in
     let t : Taken bs = record { some = omega (arith, eqb-false (length bs) 0 (sym c.if-is_empty.ensures)); each = λ p l. fit bs p _ _ (c.loop-place.invariant.0 p (omega (arith, c.div_ceil-place-end.ensures))) } in
     let value = sym (takes bs t) in
-    record { value = value; exact = takes_images bs _ value (λ k. omega (arith, c.type_inv.bytes k)); one = one_image }
-
-pub returns-then-is_empty : goal.returns-then-is_empty
-returns-then-is_empty c =
-    let bs = c.args.bytes.now in
-    let value : Err c.at.result ≡ image_answer bs = search rules in
     record { value = value; exact = takes_images bs _ value (λ k. omega (arith, c.type_inv.bytes k)); one = one_image }
