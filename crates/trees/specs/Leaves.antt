@@ -1,7 +1,7 @@
 -- A single leaf keeps the law, and what a make means by the leaf that it may hold.
-use Rattle.std.specs.Prelude.{◌≡◌, ℕ, zero, suc, ◌<◌, true, length, Some, None, Option, is_none, refl}
+use Rattle.std.specs.Prelude.{◌≡◌, ℕ, zero, suc, ◌<◌, Bool, true, length, Some, None, Option, is_none, refl}
 use Rattle.std.specs.Option.{ForSome}
-use Rattle.std.proofs.Common.{ap, arith}
+use Rattle.std.proofs.Common.{ap, sym, ◌∙◌, arith}
 use Rattle.trees.specs.Forest.{Forest, Law, label_at, relabel}
 use Rattle.trees.specs.Scan.{leaf, kept}
 
@@ -26,6 +26,12 @@ kept_law (Some l) m f h = leaf_law l (h l refl)
 
 pub kept_none : (leaf : Option ℕ) (m : Forest) → leaf ≡ None → kept leaf m ≡ m
 kept_none leaf m e = ap (λ l. kept l m) e
+
+pub length_kept : (leaf : Option ℕ) (m : Forest) → leaf ≡ None → length (kept leaf m) ≡ length m
+length_kept leaf m e = ap length (kept_none leaf m e)
+
+pub sound_kept : (leaf : Option ℕ) (sound : Bool) → leaf ≡ None → is_none leaf ≡ sound → sound ≡ true
+sound_kept leaf sound e f = sym f ∙ ap is_none e
 
 -- the leaf takes the label
 pub leaf_put : (l p k : ℕ) → p < length (leaf l) → leaf k ≡ relabel (leaf l) p k

@@ -1,5 +1,5 @@
 -- A label stored in an outline's records.
-use Rattle.std.specs.Prelude.{◌≡◌, ℕ, zero, suc, ◌+◌, ◌<◌, ◌≤◌, true, cond, List, [], ◌∷◌, length, get_or, None, Option, is_none, is_ok, nat_lt, slice_index_or, slice_set, refl}
+use Rattle.std.specs.Prelude.{◌≡◌, ℕ, zero, suc, ◌+◌, ◌<◌, true, cond, List, [], ◌∷◌, length, get_or, None, Option, is_none, is_ok, nat_lt, slice_index_or, slice_set, refl}
 use Rattle.std.specs.Option.{ForSome}
 use Rattle.std.proofs.Common.{ap, sym, ◌∙◌, arith, length-set}
 use Rattle.trees.specs.declared.record.Record.{Record}
@@ -7,7 +7,7 @@ use Rattle.trees.specs.Forest.{Law, relabel}
 use Rattle.trees.specs.Scan.{kept}
 use Rattle.trees.specs.Outlines.{no_record, depth_limit, deeper, outline_nodes, outline_answer}
 use Rattle.trees.specs.Faults.{Fine, Accepted, accepted, accepts}
-use Rattle.trees.specs.Outlining.{length_nodes, outline_law}
+use Rattle.trees.specs.Outlining.{outline_law}
 use Rattle.trees.specs.Leaves.{kept_law, kept_none}
 
 abbrev pub stored : List Record → ℕ → ℕ → List Record
@@ -67,15 +67,6 @@ sound_stored rs p l h s = ap is_ok (accepts (stored rs p l) (accepted_stored rs 
 -- no leaf is held beside an outline
 pub outline_kept : (leaf : Option ℕ) (rs : List Record) → is_none leaf ≡ is_ok (outline_answer rs) → ForSome leaf (λ l. l < 32768) → Law (kept leaf (outline_nodes rs))
 outline_kept leaf rs e h = kept_law leaf (outline_nodes rs) (λ t. outline_law rs (accepted rs (sym e ∙ t))) h
-
-pub length_kept : (leaf : Option ℕ) (rs : List Record) → leaf ≡ None → length rs ≡ length (kept leaf (outline_nodes rs))
-length_kept leaf rs e = sym (ap length (kept_none leaf (outline_nodes rs) e) ∙ length_nodes rs)
-
-pub sound_kept : (leaf : Option ℕ) (rs : List Record) → leaf ≡ None → is_none leaf ≡ is_ok (outline_answer rs) → is_ok (outline_answer rs) ≡ true
-sound_kept leaf rs e f = sym f ∙ ap is_none e
-
-pub few_kept : (leaf : Option ℕ) (rs : List Record) → leaf ≡ None → is_none leaf ≡ is_ok (outline_answer rs) → length rs ≤ 4096
-few_kept leaf rs e f = omega (arith, (outline_law rs (accepted rs (sound_kept leaf rs e f))).few_nodes, length_nodes rs)
 
 pub put_kept : (leaf : Option ℕ) (rs : List Record) (p l : ℕ) → leaf ≡ None → kept leaf (outline_nodes (stored rs p l)) ≡ relabel (kept leaf (outline_nodes rs)) p l
 put_kept leaf rs p l e = kept_none leaf (outline_nodes (stored rs p l)) e ∙ nodes_stored rs p l ∙ ap (λ m. relabel m p l) (sym (kept_none leaf (outline_nodes rs) e))

@@ -28,6 +28,7 @@ pub fn write_image<T: Tree>(tree: &T, out: &mut [u8]) -> Result<usize, Refusal>
     if out.len() < RECORD_BYTES * places {
         return Err(Refusal::at(Cause::NoRoom, Layer::Image, 0));
     }
+    // Kept as an index: what `chunks_exact_mut` or `as_chunks_mut` lends is not known in `out` afterwards, so `bytes` was left open.
     for place in 0..places {
         let label = tree.label(place).unwrap();
         let size = tree.size(place).unwrap();

@@ -3,7 +3,8 @@ use Rattle.std.proofs.Common.{◌≡◌, ◌+◌, ◌*◌, ◌/◌, ◌%◌, ◌
 use Rattle.trees.specs.Forest.{relabel}
 use Rattle.trees.specs.Images.{image_nodes}
 use Rattle.trees.specs.Imaging.{many, taken}
-use Rattle.trees.specs.ImagePuts.{low_stored, both_stored, nodes_stored, sound_kept, sound_stored}
+use Rattle.trees.specs.ImagePuts.{low_stored, both_stored, nodes_stored, sound_stored}
+use Rattle.trees.specs.Leaves.{sound_kept}
 use Rattle.trees.proofs.image.Image.store.Goals as goal
 
 pub bounds-self-place : goal.bounds-self-place
@@ -15,7 +16,7 @@ invariant_of-self c =
     let s = c.args.self.now in
     let bs = s.bytes.now in
     let p = c.args.place in
-    let t = sound_kept s.leaf bs c.requires.1.1.1 s.checked in
+    let t = sound_kept s.leaf _ c.requires.1.1.1 s.checked in
     let h : p < length bs / 6 = omega (arith, many bs) in
     let old : get_or bs (6 * p + 4) 0 + 256 * get_or bs (6 * p + 5) 0 < 32768 = ((taken bs t).each p (omega arith)).small in
     let low : get_or c.to_le_bytes.result 0 0 ≡ c.args.label % 256 = ap (λ xs. get_or xs 0 0) c.to_le_bytes.ensures in
@@ -31,7 +32,7 @@ invariant_of-self-2 c =
     let s = c.args.self.now in
     let bs = s.bytes.now in
     let p = c.args.place in
-    let t = sound_kept s.leaf bs c.requires.1.1.1 s.checked in
+    let t = sound_kept s.leaf _ c.requires.1.1.1 s.checked in
     let h : p < length bs / 6 = omega (arith, many bs) in
     let low : get_or c.to_le_bytes.result 0 0 ≡ c.args.label % 256 = ap (λ xs. get_or xs 0 0) c.to_le_bytes.ensures in
     let high : get_or c.to_le_bytes.result 1 0 ≡ c.args.label / 256 % 256 = ap (λ xs. get_or xs 1 0) c.to_le_bytes.ensures in
