@@ -43,10 +43,10 @@ same_answer m n false e (k, l, h) =
 pub alike : (m n : Forest) → m ≡ n → Alike m n
 alike m n e = record { places = ap length e; labels = λ p. ap (λ t. label_answer t p) e; sizes = λ p. ap (λ t. size_answer t p) e }
 
-label_inside : (m : Forest) (p : ℕ) → p < length m → label_answer m p ≡ Ok (label_at m p)
+pub label_inside : (m : Forest) (p : ℕ) → p < length m → label_answer m p ≡ Ok (label_at m p)
 label_inside m p h = cond-true (ltb p (length m)) (Ok (label_at m p)) (Err no_such_place) (lt-ltb p (length m) h)
 
-size_inside : (m : Forest) (p : ℕ) → p < length m → size_answer m p ≡ Ok (size_at m p)
+pub size_inside : (m : Forest) (p : ℕ) → p < length m → size_answer m p ≡ Ok (size_at m p)
 size_inside m p h = cond-true (ltb p (length m)) (Ok (size_at m p)) (Err no_such_place) (lt-ltb p (length m) h)
 
 -- trees that answer alike are equal

@@ -1,5 +1,5 @@
--- The head that is read at a place of an image.
-use Rattle.std.proofs.Common.{◌≡◌, ℕ, zero, suc, ◌+◌, ◌*◌, ◌/◌, ◌<◌, ◌≤◌, List, [], length, get_or, take, drop, Some, None, Option, MatchOption, sym, refl, ap, ◌∙◌, subst, arith, drop-drop}
+-- The head that is read at a place of an image, and the bytes of a label.
+use Rattle.std.proofs.Common.{◌≡◌, ℕ, zero, suc, ◌+◌, ◌*◌, ◌/◌, ◌%◌, ◌<◌, ◌≤◌, List, [], ◌∷◌, length, get_or, take, drop, Some, None, Option, MatchOption, sym, refl, ap, ◌∙◌, subst, arith, drop-drop}
 use Rattle.std.specs.Option.{IsSome}
 use Rattle.std.specs.Simd.{first_chunks}
 use Rattle.std.proofs.lemmas.Bool.{cond-false, le-ltb}
@@ -42,3 +42,10 @@ head_found bs rec p r h e f =
 pub some_head : (bs : List ℕ) (p : ℕ) (r : Option Head) → p < length bs / 6 → MatchOption r (length bs < 6 * p + 6) (HeadAt bs p) → IsSome r
 some_head bs p None h m = absurd (omega arith)
 some_head bs p (Some head) h m = refl
+
+-- a label is told by its two bytes
+pub label_bytes : (bytes : List ℕ) (l : ℕ) → l < 32768 → bytes ≡ l % 256 ∷ l / 256 % 256 ∷ [] → (get_or bytes 0 0 < 256) × (get_or bytes 0 0 + 256 * get_or bytes 1 0 ≡ l)
+label_bytes bytes l h e =
+    let low : get_or bytes 0 0 ≡ l % 256 = ap (λ xs. get_or xs 0 0) e in
+    let high : get_or bytes 1 0 ≡ l / 256 % 256 = ap (λ xs. get_or xs 1 0) e in
+    (omega arith, omega arith)

@@ -7,10 +7,10 @@ use Rattle.trees.specs.Images.{around, inner_end}
 use Rattle.trees.specs.Opened.{popped}
 use Rattle.trees.specs.Enclosing.{in_more, out_more}
 
-pub keep : (p e : ℕ) (es : List ℕ) → p < e → popped p (e ∷ es) ≡ e ∷ es
+keep : (p e : ℕ) (es : List ℕ) → p < e → popped p (e ∷ es) ≡ e ∷ es
 keep p e es h = cond-true (nat_lt p e) (e ∷ es) (popped p es) (lt-ltb p e h)
 
-pub pop : (p e : ℕ) (es : List ℕ) → e ≤ p → popped p (e ∷ es) ≡ popped p es
+pop : (p e : ℕ) (es : List ℕ) → e ≤ p → popped p (e ∷ es) ≡ popped p es
 pop p e es h = cond-false (nat_lt p e) (e ∷ es) (popped p es) (le-ltb p e h)
 
 popped_twice : (p j : ℕ) (es : List ℕ) → p ≤ j → popped j (popped p es) ≡ popped j es
