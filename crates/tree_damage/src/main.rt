@@ -37,30 +37,22 @@ fn outcome(rt: &impl Print, bytes: &mut [u8]) -> io::Result<()> {
 
 /// The image cut off at each length.
 fn cuts(rt: &impl Print) -> io::Result<()> {
-    for n in 0..61 {
+    for n in 0..=IMAGE.len() {
         let mut bytes = IMAGE;
         print!(rt; "cut to {n}: ")?;
-        outcome(rt, &mut bytes[0..n])?;
+        outcome(rt, &mut bytes[..n])?;
     }
     Ok(())
 }
 
-/// What the check answers, as numbers.
-fn answer(bytes: &[u8]) -> (usize, u8, usize) {
-    match check_image(bytes) {
-        Ok(places) => (places, 0, 0),
-        Err(refusal) => (0, refusal.cause.number(), refusal.byte),
-    }
-}
-
 /// The image with one byte changed to each value; those that are answered alike as the one before are passed over.
 fn changes(rt: &impl Print) -> io::Result<()> {
-    for at in 0..60 {
-        let mut last = (0, 0, 0);
+    for at in 0..IMAGE.len() {
+        let mut last = None;
         for value in 0..=255u8 {
             let mut bytes = IMAGE;
             bytes[at] = value;
-            let now = answer(&bytes);
+            let now = Some(check_image(&bytes));
             if now != last {
                 print!(rt; "byte {at} from {value}: ")?;
                 outcome(rt, &mut bytes)?;

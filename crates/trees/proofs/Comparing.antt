@@ -1,43 +1,52 @@
 -- The same tree, and the questions that tell it; a label that is taken back.
-use Rattle.std.proofs.Common.{◌≡◌, ℕ, ◌+◌, ◌<◌, ◌≤◌, Bool, true, false, ◌&&◌, ltb, length, get_or, drop, Ok, Err, sym, refl, ap, ◌∙◌, ⊎_elim, arith}
-use Rattle.std.proofs.lemmas.List.{drop_more, drop_all, ext_get_or}
-use Rattle.std.proofs.lemmas.Bool.{cases_lt, cases_Bool, lt-ltb, le-ltb, cond-true, cond-false, and_left}
+use Rattle.std.proofs.Common.{◌≡◌, ℕ, ◌+◌, ◌<◌, Bool, true, false, ltb, length, get_or, Ok, Err, sym, refl, ap, ◌∙◌, subst, ⊎_elim, arith}
+use Rattle.std.specs.Prelude.{slice_index_or}
+use Rattle.std.specs.Bool.{MatchBool}
+use Rattle.std.specs.List.{range_with_len, AllWithin, HoldsAt}
+use Rattle.std.proofs.lemmas.List.FromFn.{length-range_with_len, get_or-range_with_len}
+use Rattle.std.proofs.lemmas.List.{ext_get_or}
+use Rattle.std.proofs.lemmas.Bool.{cases_lt, cases_Bool, lt-ltb, le-ltb, cond-true, cond-false, true≢false}
 use Rattle.trees.specs.Forest.{Forest, no_node, label_at, size_at, relabel, same_node, same}
 use Rattle.trees.specs.Questions.{label_answer, size_answer, no_such_place}
 use Rattle.trees.specs.Laws.{Alike, MakesAgree}
-use Rattle.trees.proofs.Same.{same_true, same_is_equal}
+use Rattle.trees.proofs.Same.{same_node_true, same_node_refl, same_true, same_refl, same_is_equal}
 use Rattle.trees.proofs.Relabel.{relabel_goes_back}
 use Rattle.trees.proofs.OutlineOf.{outline_meant}
 use Rattle.trees.proofs.ImageOf.{image_meant}
 
--- trees of different lengths differ
-pub not_same : (m n : Forest) → (length m ≡ length n → ⊥) → same m n ≡ false
-not_same m n h = ⊎_elim (λ t. absurd (h (ap length (same_true m n t)))) (λ f. f) (cases_Bool (same m n))
+abbrev both_here : Forest → Forest → ℕ → Bool
+both_here m n p = same_node (get_or m p no_node) (get_or n p no_node)
 
-step : (m n : Forest) (p : ℕ) → p < length m → p < length n → same (drop p m) (drop p n) ≡ (same_node (get_or m p no_node) (get_or n p no_node) && same (drop (p + 1) m) (drop (p + 1) n))
-step m n p h k =
-    let a = drop_more m p no_node h in
-    let b = drop_more n p no_node k in
-    λ i. same (a i) (b i)
+-- trees are the same at a place, if both have it
+abbrev pub HereIs : Forest → Forest → Bool → ℕ → Type 0
+HereIs m n b p = p < length m → p < length n → b ≡ both_here m n p
 
--- the walk over two trees: it goes on, it stops, it ends
-pub same_more : (m n : Forest) (p : ℕ) → p < length m → p < length n → same_node (get_or m p no_node) (get_or n p no_node) ≡ true → same (drop p m) (drop p n) ≡ same (drop (p + 1) m) (drop (p + 1) n)
-same_more m n p h k e = step m n p h k ∙ ap (λ t. t && same (drop (p + 1) m) (drop (p + 1) n)) e
-
-pub same_stop : (m n : Forest) (p : ℕ) → p < length m → p < length n → same_node (get_or m p no_node) (get_or n p no_node) ≡ false → same (drop p m) (drop p n) ≡ false
-same_stop m n p h k e = step m n p h k ∙ and_left _ _ e
-
-pub same_end : (m n : Forest) (p : ℕ) → length m ≤ p → length n ≤ p → same (drop p m) (drop p n) ≡ true
-same_end m n p h k = let a = drop_all p m h in let b = drop_all p n k in λ i. same (a i) (b i)
+-- trees of one length are told by a test of every place
+pub same_answer : (m n : Forest) (r : Bool) → length m ≡ length n → MatchBool r (AllWithin (HereIs m n true) (range_with_len 0 (length m)) 0 (length (range_with_len 0 (length m)))) ((k : ℕ) × (k < length (range_with_len 0 (length m))) × HoldsAt (HereIs m n false) (range_with_len 0 (length m)) k) → r ≡ same m n
+same_answer m n true e h =
+    let is : m ≡ n = ext_get_or no_node m n e (λ p i.
+    let l = length-range_with_len 0 (length m) in
+    let x : slice_index_or (range_with_len 0 (length m)) p 0 ≡ p = let z : 0 + p ≡ p = omega arith in get_or-range_with_len 0 (length m) p 0 i ∙ z in
+    let t : HereIs m n true p = subst (HereIs m n true) x (h p 0 (omega arith) (omega arith)) in
+    same_node_true _ _ (sym (t i (omega arith)))) in
+    sym (ap (same m) (sym is) ∙ same_refl m)
+same_answer m n false e (k, l, h) =
+    let i : k < length m = omega (arith, length-range_with_len 0 (length m)) in
+    let x : slice_index_or (range_with_len 0 (length m)) k 0 ≡ k = let z : 0 + k ≡ k = omega arith in get_or-range_with_len 0 (length m) k 0 i ∙ z in
+    let t : HereIs m n false k = subst (HereIs m n false) x (h 0) in
+    ⊎_elim
+    (λ s. absurd (true≢false (sym (same_node_refl (get_or m k no_node)) ∙ ap (λ (f : Forest). same_node (get_or m k no_node) (get_or f k no_node)) (same_true m n s) ∙ sym (t i (omega arith)))))
+    (λ f. sym f)
+    (cases_Bool (same m n))
 
 -- equal trees answer alike
 pub alike : (m n : Forest) → m ≡ n → Alike m n
 alike m n e = record { places = ap length e; labels = λ p. ap (λ t. label_answer t p) e; sizes = λ p. ap (λ t. size_answer t p) e }
 
-label_inside : (m : Forest) (p : ℕ) → p < length m → label_answer m p ≡ Ok (label_at m p)
+pub label_inside : (m : Forest) (p : ℕ) → p < length m → label_answer m p ≡ Ok (label_at m p)
 label_inside m p h = cond-true (ltb p (length m)) (Ok (label_at m p)) (Err no_such_place) (lt-ltb p (length m) h)
 
-size_inside : (m : Forest) (p : ℕ) → p < length m → size_answer m p ≡ Ok (size_at m p)
+pub size_inside : (m : Forest) (p : ℕ) → p < length m → size_answer m p ≡ Ok (size_at m p)
 size_inside m p h = cond-true (ltb p (length m)) (Ok (size_at m p)) (Err no_such_place) (lt-ltb p (length m) h)
 
 -- trees that answer alike are equal

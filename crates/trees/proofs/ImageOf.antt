@@ -1,14 +1,14 @@
 -- The image of a tree is accepted and means the tree, and accepted bytes are the image of what they mean.
-use Rattle.std.proofs.Common.{◌≡◌, ℕ, zero, suc, ◌+◌, ◌*◌, ◌/◌, ◌%◌, ◌<◌, ◌≤◌, true, false, List, [], ◌∷◌, ◌++◌, map, length, get_or, drop, is_ok, Ok, Err, Result, sym, refl, ap, ◌∙◌, ⊎_elim, arith}
+use Rattle.std.proofs.Common.{◌≡◌, ℕ, zero, suc, ◌+◌, ◌*◌, ◌/◌, ◌%◌, ◌<◌, ◌≤◌, List, [], ◌∷◌, ◌++◌, map, length, get_or, drop, is_ok, Ok, Result, sym, refl, ap, ◌∙◌, ⊎_elim, arith}
 use Rattle.std.specs.List.{range_with_len}
 use Rattle.std.proofs.lemmas.List.{ext_get_or, drop_more, drop_all}
-use Rattle.std.proofs.lemmas.Bool.{cases_lt}
+use Rattle.std.proofs.lemmas.Bool.{cases_lt, cond-true}
 use Rattle.refusals.specs.declared.Refusal.{Refusal}
 use Rattle.trees.specs.Forest.{Node, Forest, Law, no_node, size_at, label_at, enclosing}
-use Rattle.trees.specs.Images.{length_in, label_in, node_in, image_nodes, around, inner_end, image_answer, image_meaning, node_bytes, image_of, RecordBytes}
-use Rattle.trees.specs.Laws.{TakesImages, OneImage}
+use Rattle.trees.specs.Images.{length_in, label_in, node_in, image_nodes, around, inner_end, image_answer, image_meaning, node_bytes, image_of}
+use Rattle.trees.specs.Laws.{Bytes, TakesImages, OneImage}
 use Rattle.trees.specs.Windows.{sound, fits_whole}
-use Rattle.trees.specs.Leaves.{kept_sound}
+use Rattle.trees.specs.Scan.{leaf}
 use Rattle.trees.specs.Enclosing.{under_root}
 use Rattle.trees.specs.Opens.{around_in, around_out, around_length}
 use Rattle.trees.specs.Imaging.{many, at, FitsAt, Taken, taken, takes, exact, image_law}
@@ -113,48 +113,41 @@ split : (x a y : ℕ) → x ≡ a + 256 * y → a < 256 → (a ≡ x % 256) × (
 split x a y e h = (omega arith, omega arith)
 
 -- a record is what its node is written as
-record_is : (bs : List ℕ) (p : ℕ) (rest : List ℕ) → length_in bs p % 6 ≡ 0 → RecordBytes bs p → (get_or bs (6 * p) 0 ∷ get_or bs (6 * p + 1) 0 ∷ get_or bs (6 * p + 2) 0 ∷ get_or bs (6 * p + 3) 0 ∷ get_or bs (6 * p + 4) 0 ∷ get_or bs (6 * p + 5) 0 ∷ rest) ≡ node_bytes (node_in bs p) ++ rest
+record_is : (bs : List ℕ) (p : ℕ) (rest : List ℕ) → length_in bs p % 6 ≡ 0 → Bytes bs → (get_or bs (6 * p) 0 ∷ get_or bs (6 * p + 1) 0 ∷ get_or bs (6 * p + 2) 0 ∷ get_or bs (6 * p + 3) 0 ∷ get_or bs (6 * p + 4) 0 ∷ get_or bs (6 * p + 5) 0 ∷ rest) ≡ node_bytes (node_in bs p) ++ rest
 record_is bs p rest e low =
     let n = length_in bs p in
-    let z : 6 * p + 0 ≡ 6 * p = omega arith in
-    let l₀ : get_or bs (6 * p) 0 < 256 = omega (arith, low 0 (omega arith), ap (λ i. get_or bs i 0) z) in
     let d₁ = get_or bs (6 * p + 1) 0 + 256 * (get_or bs (6 * p + 2) 0 + 256 * get_or bs (6 * p + 3) 0) in
-    let s₀ = split (6 * (n / 6)) (get_or bs (6 * p) 0) d₁ (omega arith) l₀ in
-    let s₁ = split (6 * (n / 6) / 256) (get_or bs (6 * p + 1) 0) (get_or bs (6 * p + 2) 0 + 256 * get_or bs (6 * p + 3) 0) s₀.1 (low 1 (omega arith)) in
-    let s₂ = split (6 * (n / 6) / 256 / 256) (get_or bs (6 * p + 2) 0) (get_or bs (6 * p + 3) 0) s₁.1 (low 2 (omega arith)) in
-    let s₃ = split (6 * (n / 6) / 256 / 256 / 256) (get_or bs (6 * p + 3) 0) 0 (s₂.1 ∙ omega arith) (low 3 (omega arith)) in
-    let s₄ = split (label_in bs p) (get_or bs (6 * p + 4) 0) (get_or bs (6 * p + 5) 0) refl (low 4 (omega arith)) in
-    let s₅ = split (label_in bs p / 256) (get_or bs (6 * p + 5) 0) 0 (s₄.1 ∙ omega arith) (low 5 (omega arith)) in
+    let s₀ = split (6 * (n / 6)) (get_or bs (6 * p) 0) d₁ (omega arith) (low (6 * p)) in
+    let s₁ = split (6 * (n / 6) / 256) (get_or bs (6 * p + 1) 0) (get_or bs (6 * p + 2) 0 + 256 * get_or bs (6 * p + 3) 0) s₀.1 (low (6 * p + 1)) in
+    let s₂ = split (6 * (n / 6) / 256 / 256) (get_or bs (6 * p + 2) 0) (get_or bs (6 * p + 3) 0) s₁.1 (low (6 * p + 2)) in
+    let s₃ = split (6 * (n / 6) / 256 / 256 / 256) (get_or bs (6 * p + 3) 0) 0 (s₂.1 ∙ omega arith) (low (6 * p + 3)) in
+    let s₄ = split (label_in bs p) (get_or bs (6 * p + 4) 0) (get_or bs (6 * p + 5) 0) refl (low (6 * p + 4)) in
+    let s₅ = split (label_in bs p / 256) (get_or bs (6 * p + 5) 0) 0 (s₄.1 ∙ omega arith) (low (6 * p + 5)) in
     λ i. s₀.0 i ∷ s₁.0 i ∷ s₂.0 i ∷ s₃.0 i ∷ s₄.0 i ∷ s₅.0 i ∷ rest
 
-records_are : (bs : List ℕ) (p n : ℕ) → length bs ≡ 6 * (p + n) → ((q : ℕ) → q < p + n → (length_in bs q % 6 ≡ 0) × RecordBytes bs q) → drop (6 * p) bs ≡ image_of (map (node_in bs) (range_with_len p n))
-records_are bs p zero l f = drop_all (6 * p) bs (omega arith)
-records_are bs p (suc n) l f =
-    let here = f p (omega arith) in
+records_are : (bs : List ℕ) (p n : ℕ) → length bs ≡ 6 * (p + n) → ((q : ℕ) → q < p + n → length_in bs q % 6 ≡ 0) → Bytes bs → drop (6 * p) bs ≡ image_of (map (node_in bs) (range_with_len p n))
+records_are bs p zero l f b = drop_all (6 * p) bs (omega arith)
+records_are bs p (suc n) l f b =
     six bs p (omega arith)
-    ∙ record_is bs p (drop (6 * (p + 1)) bs) here.0 here.1
-    ∙ ap (λ rest. node_bytes (node_in bs p) ++ rest) (records_are bs (p + 1) n (omega arith) (λ q h. f q (omega arith)))
+    ∙ record_is bs p (drop (6 * (p + 1)) bs) (f p (omega arith)) b
+    ∙ ap (λ rest. node_bytes (node_in bs p) ++ rest) (records_are bs (p + 1) n (omega arith) (λ q h. f q (omega arith)) b)
 
 -- accepted bytes are the image of their nodes
-pub image_is : (bs : List ℕ) → Taken bs → ((p : ℕ) → p < length bs / 6 → RecordBytes bs p) → bs ≡ image_of (image_nodes bs)
-image_is bs t b = records_are bs 0 (length bs / 6) (omega (arith, exact bs t)) (λ q h. ((t.each q (omega arith)).even, b q (omega arith)))
+pub image_is : (bs : List ℕ) → Taken bs → Bytes bs → bs ≡ image_of (image_nodes bs)
+image_is bs t b = records_are bs 0 (length bs / 6) (omega (arith, exact bs t)) (λ q h. (t.each q (omega arith)).even) b
 
 -- what the check answers is exact
-pub takes_images : (bs : List ℕ) (r : Result ℕ Refusal) → r ≡ image_answer bs → (is_ok r ≡ true → (p : ℕ) → p < length bs / 6 → RecordBytes bs p) → TakesImages bs r
+pub takes_images : (bs : List ℕ) (r : Result ℕ Refusal) → r ≡ image_answer bs → Bytes bs → TakesImages bs r
 takes_images bs r e b = (
-  (λ h. let t = taken bs (ap is_ok (sym e) ∙ h) in (image_nodes bs, image_law bs t, image_is bs t (b h))),
+  (λ h. let t = taken bs (ap is_ok (sym e) ∙ h) in (image_nodes bs, image_law bs t, image_is bs t b)),
   (λ m h k. e ∙ ap image_answer k ∙ image_taken m h),
 )
 
--- nothing is accepted by a refusal
-pub takes_none : (bs : List ℕ) (r : Result ℕ Refusal) (x : Refusal) → r ≡ image_answer bs → r ≡ Err x → TakesImages bs r
-takes_none bs r x e f = takes_images bs r e (λ h. let z : false ≡ true = sym (ap is_ok f) ∙ h in let n : ◌≡◌ {A = ℕ} 0 1 = cc in absurd (omega arith))
-
 -- the tree made of a tree's image means that tree
 pub image_meant : (bs : List ℕ) (m : Forest) → Law m → bs ≡ image_of m → image_meaning bs ≡ m
-image_meant bs m h e = ap image_meaning e ∙ kept_sound (is_ok (image_answer (image_of m))) (image_nodes (image_of m)) 0 (ap is_ok (image_taken m h)) ∙ image_means m h
+image_meant bs m h e = ap image_meaning e ∙ cond-true (is_ok (image_answer (image_of m))) (image_nodes (image_of m)) (leaf 0) (ap is_ok (image_taken m h)) ∙ image_means m h
 
 pub one_image : OneImage
 one_image bs cs b c s t e =
-    let nodes : image_nodes bs ≡ image_nodes cs = sym (kept_sound (is_ok (image_answer bs)) (image_nodes bs) 0 s) ∙ e ∙ kept_sound (is_ok (image_answer cs)) (image_nodes cs) 0 t in
-    image_is bs (taken bs s) (λ p l k h. b (6 * p + k)) ∙ ap image_of nodes ∙ sym (image_is cs (taken cs t) (λ p l k h. c (6 * p + k)))
+    let nodes : image_nodes bs ≡ image_nodes cs = sym (cond-true (is_ok (image_answer bs)) (image_nodes bs) (leaf 0) s) ∙ e ∙ cond-true (is_ok (image_answer cs)) (image_nodes cs) (leaf 0) t in
+    image_is bs (taken bs s) b ∙ ap image_of nodes ∙ sym (image_is cs (taken cs t) c)

@@ -10,7 +10,8 @@ use Rattle.trees.specs.Laws.{TakesOutlines}
 use Rattle.trees.specs.Windows.{sound, fits_whole}
 use Rattle.trees.specs.Faults.{Fine, Accepted, accepted, accepts}
 use Rattle.trees.specs.Outlining.{length_nodes, label_read, size_read, deeper_to, depth_read, outline_law}
-use Rattle.trees.specs.Leaves.{kept_sound}
+use Rattle.trees.specs.Scan.{leaf}
+use Rattle.std.proofs.lemmas.Bool.{cond-true}
 use Rattle.trees.specs.Enclosing.{deeper_inside, shallower_after, one_deeper, under_root}
 
 abbrev record_of : Forest → ℕ → Record
@@ -89,4 +90,4 @@ takes_outlines rs r e = (
 
 -- the tree made of a tree's outline means that tree
 pub outline_meant : (rs : List Record) (m : Forest) → Law m → rs ≡ outline_of m → outline_meaning rs ≡ m
-outline_meant rs m h e = ap outline_meaning e ∙ kept_sound (is_ok (outline_answer (outline_of m))) (outline_nodes (outline_of m)) 0 (ap is_ok (outline_taken m h)) ∙ outline_means m h
+outline_meant rs m h e = ap outline_meaning e ∙ cond-true (is_ok (outline_answer (outline_of m))) (outline_nodes (outline_of m)) (leaf 0) (ap is_ok (outline_taken m h)) ∙ outline_means m h

@@ -1,20 +1,20 @@
 -- The steps of writing an image.
-use Rattle.std.proofs.Common.{◌≡◌, ℕ, ◌+◌, ◌*◌, ◌<◌, ◌≤◌, ltb, List, [], ◌∷◌, ◌++◌, length, get_or, take, drop, Ok, Err, sym, refl, ap, ◌∙◌, append_assoc, arith}
+use Rattle.std.proofs.Common.{◌≡◌, ℕ, ◌+◌, ◌*◌, ◌<◌, ◌≤◌, List, [], ◌∷◌, ◌++◌, length, get_or, take, drop, Ok, sym, refl, ap, ◌∙◌, append_assoc, arith}
 use borrow.Rule.Slice.PartMut.{put_mid}
 use Rattle.std.proofs.lemmas.List.{take_more, take_all, take_at, drop_at, drop-drop, length-take-le}
-use Rattle.std.proofs.lemmas.Bool.{lt-ltb, cond-true}
 use Rattle.trees.specs.Forest.{Node, Forest, Law, no_node, size_at, label_at}
-use Rattle.trees.specs.Questions.{label_answer, size_answer, no_such_place}
+use Rattle.trees.specs.Questions.{label_answer, size_answer}
 use Rattle.trees.specs.Images.{image_of, node_bytes}
 use Rattle.trees.specs.Writing.{ReadsBack}
+use Rattle.trees.proofs.Comparing.{label_inside, size_inside}
 use Rattle.trees.proofs.ImageOf.{length_image, image_taken, image_meant}
 
 -- the questions inside the tree
 pub size_is : (m : Forest) (p n : ℕ) → p < length m → size_answer m p ≡ Ok n → n ≡ size_at m p
-size_is m p n h e = let f : size_answer m p ≡ Ok (size_at m p) = cond-true (ltb p (length m)) (Ok (size_at m p)) (Err no_such_place) (lt-ltb p (length m) h) in cc
+size_is m p n h e = let f = size_inside m p h in cc
 
 pub label_is : (m : Forest) (p n : ℕ) → p < length m → label_answer m p ≡ Ok n → n ≡ label_at m p
-label_is m p n h e = let f : label_answer m p ≡ Ok (label_at m p) = cond-true (ltb p (length m)) (Ok (label_at m p)) (Err no_such_place) (lt-ltb p (length m) h) in cc
+label_is m p n h e = let f = label_inside m p h in cc
 
 image_push : (m : Forest) (a : Node) → image_of (m ++ a ∷ []) ≡ image_of m ++ node_bytes a
 image_push [] a = refl

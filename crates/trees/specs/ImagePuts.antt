@@ -1,12 +1,13 @@
 -- A label stored in an image's bytes.
-use Rattle.std.specs.Prelude.{◌≡◌, ℕ, ◌+◌, ◌*◌, ◌/◌, ◌%◌, ◌<◌, ◌≤◌, Bool, true, ◌≢◌, List, length, get_or, set, is_ok, slice_index, slice_index_or, slice_set}
+use Rattle.std.specs.Prelude.{◌≡◌, ℕ, ◌+◌, ◌*◌, ◌/◌, ◌%◌, ◌<◌, true, ◌≢◌, List, length, get_or, set, Option, is_none, is_ok, slice_index, slice_index_or, slice_set}
+use Rattle.std.specs.Option.{ForSome}
 use Rattle.std.proofs.Common.{ap, sym, ◌∙◌, ⊎_elim, arith, length-set, get_or-set_same, get_or-set_other}
 use Rattle.std.proofs.lemmas.List.{ext_get_or, get_or_past}
 use Rattle.std.proofs.lemmas.Bool.{cases_eq, cases_lt}
 use Rattle.trees.specs.Forest.{Law, no_node, with_label, size_at, relabel}
 use Rattle.trees.specs.Scan.{kept}
 use Rattle.trees.specs.Images.{length_in, label_in, node_in, image_nodes, around, inner_end, image_answer}
-use Rattle.trees.specs.Leaves.{kept_law, kept_sound}
+use Rattle.trees.specs.Leaves.{kept_law}
 use Rattle.trees.specs.Opens.{around_sized}
 use Rattle.trees.specs.Imaging.{many, at, FitsAt, taken, takes, image_law}
 
@@ -110,12 +111,6 @@ sound_stored bs cs p l h r s =
     let t = taken bs s in
     ap is_ok (takes cs (record { some = omega (arith, r.long, t.some); each = λ q k. fit_stored bs cs p l q h r (t.each q (omega (arith, r.long))) }))
 
--- the flag is what the check answers
-pub image_kept : (s : Bool) (bs : List ℕ) (l : ℕ) → s ≡ is_ok (image_answer bs) → l < 32768 → Law (kept s (image_nodes bs) l)
-image_kept s bs l e h = kept_law s (image_nodes bs) l (λ t. image_law bs (taken bs (sym e ∙ t))) h
-
-pub length_kept : (s : Bool) (bs : List ℕ) (l : ℕ) → s ≡ true → length bs / 6 ≡ length (kept s (image_nodes bs) l)
-length_kept s bs l e = sym (ap length (kept_sound s (image_nodes bs) l e) ∙ many bs)
-
-pub few_kept : (s : Bool) (bs : List ℕ) → s ≡ true → s ≡ is_ok (image_answer bs) → length bs / 6 ≤ 4096
-few_kept s bs e f = omega (arith, (image_law bs (taken bs (sym f ∙ e))).few_nodes, many bs)
+-- no leaf is held beside an image
+pub image_kept : (leaf : Option ℕ) (bs : List ℕ) → is_none leaf ≡ is_ok (image_answer bs) → ForSome leaf (λ l. l < 32768) → Law (kept leaf (image_nodes bs))
+image_kept leaf bs e h = kept_law leaf (image_nodes bs) (λ t. image_law bs (taken bs (sym e ∙ t))) h

@@ -1,5 +1,5 @@
 -- Images: which bytes are one, what they mean, and the image of a tree.
-use Rattle.std.specs.Prelude.{ℕ, zero, suc, ◌+◌, ◌*◌, ◌/◌, ◌%◌, ◌<◌, cond, ◌&&◌, ◌||◌, List, [], ◌∷◌, ◌++◌, map, length, is_ok, Some, None, Err, Option, Result, ◌==◌, nat_lt, slice_index}
+use Rattle.std.specs.Prelude.{ℕ, zero, suc, ◌+◌, ◌*◌, ◌/◌, ◌%◌, cond, ◌&&◌, ◌||◌, List, [], ◌∷◌, ◌++◌, map, length, is_ok, Some, None, Err, Option, Result, ◌==◌, nat_lt, slice_index}
 use Rattle.std.specs.List.{range_with_len, flat_map}
 use Rattle.refusals.specs.declared.Cause.{Cause}
 use Rattle.refusals.specs.declared.Cause.TheVariants.{OneTree, BadLength, BadLabel, TooMany}
@@ -7,7 +7,7 @@ use Rattle.refusals.specs.declared.Layer.TheVariants.{Image}
 use Rattle.refusals.specs.declared.Refusal.{Refusal}
 use Rattle.refusals.specs.Numbers.{refused}
 use Rattle.trees.specs.Forest.{Node, Forest, size_at}
-use Rattle.trees.specs.Scan.{scan, kept}
+use Rattle.trees.specs.Scan.{scan, leaf}
 
 -- The length that the record of a place gives: four bytes, the lowest first.
 abbrev pub length_in : List ℕ → ℕ → ℕ
@@ -54,7 +54,7 @@ image_answer bs = cond (length bs == 0) (Err (refused OneTree Image 0 0)) (scan 
 
 -- What a tree made of bytes means: their nodes if they are an image, else a leaf with label 0.
 abbrev pub image_meaning : List ℕ → Forest
-image_meaning bs = kept (is_ok (image_answer bs)) (image_nodes bs) 0
+image_meaning bs = cond (is_ok (image_answer bs)) (image_nodes bs) (leaf 0)
 
 -- A number in so many bytes, the lowest first.
 abbrev pub number_bytes : ℕ → ℕ → List ℕ
@@ -68,7 +68,3 @@ node_bytes a = number_bytes 4 (6 * a.size) ++ number_bytes 2 a.label
 -- The image of a tree: the records of its nodes, in order of place.
 abbrev pub image_of : Forest → List ℕ
 image_of m = flat_map node_bytes m
-
--- The six numbers of a place's record are bytes.
-abbrev pub RecordBytes : List ℕ → ℕ → Type 0
-RecordBytes bs p = (k : ℕ) → k < 6 → slice_index bs (6 * p + k) < 256

@@ -1,7 +1,7 @@
--- A single leaf keeps the law, and what a make means by its flag.
-use Rattle.std.specs.Prelude.{◌≡◌, ℕ, zero, suc, ◌<◌, Bool, true, false, length, refl}
-use Rattle.std.proofs.Common.{ap, arith}
-use Rattle.std.proofs.lemmas.Bool.{true≢false}
+-- A single leaf keeps the law, and what a make means by the leaf that it may hold.
+use Rattle.std.specs.Prelude.{◌≡◌, ℕ, zero, suc, ◌<◌, Bool, true, length, Some, None, Option, is_none, refl}
+use Rattle.std.specs.Option.{ForSome}
+use Rattle.std.proofs.Common.{ap, sym, ◌∙◌, arith}
 use Rattle.trees.specs.Forest.{Forest, Law, label_at, relabel}
 use Rattle.trees.specs.Scan.{leaf, kept}
 
@@ -20,15 +20,20 @@ leaf_law l h = record {
   shallow = elim [ zero ↦ λ k. omega arith | suc p ↦ λ k. absurd (omega arith) ];
 }
 
-pub kept_law : (s : Bool) (m : Forest) (l : ℕ) → (s ≡ true → Law m) → l < 32768 → Law (kept s m l)
-kept_law true m l f h = f refl
-kept_law false m l f h = leaf_law l h
+pub kept_law : (leaf : Option ℕ) (m : Forest) → (is_none leaf ≡ true → Law m) → ForSome leaf (λ l. l < 32768) → Law (kept leaf m)
+kept_law None m f h = f refl
+kept_law (Some l) m f h = leaf_law l (h l refl)
 
-pub kept_sound : (s : Bool) (m : Forest) (l : ℕ) → s ≡ true → kept s m l ≡ m
-kept_sound s m l e = ap (λ t. kept t m l) e
+pub kept_none : (leaf : Option ℕ) (m : Forest) → leaf ≡ None → kept leaf m ≡ m
+kept_none leaf m e = ap (λ l. kept l m) e
+
+pub length_kept : (leaf : Option ℕ) (m : Forest) → leaf ≡ None → length (kept leaf m) ≡ length m
+length_kept leaf m e = ap length (kept_none leaf m e)
+
+pub sound_kept : (leaf : Option ℕ) (sound : Bool) → leaf ≡ None → is_none leaf ≡ sound → sound ≡ true
+sound_kept leaf sound e f = sym f ∙ ap is_none e
 
 -- the leaf takes the label
-pub leaf_put : (s : Bool) (m : Forest) (l p k : ℕ) → s ≡ false → p < length (kept s m l) → kept s m k ≡ relabel (kept s m l) p k
-leaf_put true m l p k e h = absurd (true≢false e)
-leaf_put false m l zero k e h = refl
-leaf_put false m l (suc p) k e h = absurd (omega arith)
+pub leaf_put : (l p k : ℕ) → p < length (leaf l) → leaf k ≡ relabel (leaf l) p k
+leaf_put l zero k h = refl
+leaf_put l (suc p) k h = absurd (omega arith)

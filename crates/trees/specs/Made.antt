@@ -8,8 +8,8 @@ use Rattle.trees.specs.Images.{image_nodes}
 
 -- What an outline means.
 abbrev pub outline_tree : Outline → Forest
-outline_tree t = kept t.sound (outline_nodes t.records.now) t.leaf
+outline_tree t = kept t.leaf (outline_nodes t.records.now)
 
 -- What an image means.
 abbrev pub image_tree : Image → Forest
-image_tree t = kept t.sound (image_nodes t.bytes.now) t.leaf
+image_tree t = kept t.leaf (image_nodes t.bytes.now)

@@ -1,39 +1,11 @@
--- The array of the ends of the open subtrees, and the ends around a place.
-use Rattle.std.specs.Prelude.{◌≡◌, ℕ, zero, suc, ◌+◌, ◌<◌, ◌≤◌, cond, ◌≢◌, List, [], ◌∷◌, length, nat_lt, slice_index, slice_index_or, slice_set, refl}
-use Rattle.std.proofs.Common.{ap, sym, ◌∙◌, ⊎_elim, arith, add-one, get_or-set_same, get_or-set_other}
+-- The ends of the open subtrees, and the ends around a place.
+use Rattle.std.specs.Prelude.{◌≡◌, ℕ, zero, suc, ◌+◌, ◌<◌, ◌≤◌, cond, List, [], ◌∷◌, length, nat_lt, refl}
+use Rattle.std.proofs.Common.{ap, sym, ◌∙◌, ⊎_elim, arith, add-one}
 use Rattle.std.proofs.lemmas.Bool.{cases_lt, cases_eq, lt-ltb, le-ltb, cond-true, cond-false}
 use Rattle.trees.specs.Forest.{Forest, size_at, enclosing}
 use Rattle.trees.specs.Images.{around, inner_end}
-use Rattle.trees.specs.Opened.{popped, top}
+use Rattle.trees.specs.Opened.{popped}
 use Rattle.trees.specs.Enclosing.{in_more, out_more}
-
-pub pop_top : (xs : List ℕ) (n v p : ℕ) → n ≡ suc v → slice_index xs v ≤ p → popped p (top xs n) ≡ popped p (top xs v)
-pop_top xs n v p e h = ap (λ k. popped p (top xs k)) e ∙ cond-false (nat_lt p (slice_index xs v)) _ _ (le-ltb p (slice_index xs v) h)
-
-pub keep_top : (xs : List ℕ) (n v p : ℕ) → n ≡ suc v → p < slice_index xs v → popped p (top xs n) ≡ top xs n
-keep_top xs n v p e h = ap (λ k. popped p (top xs k)) e ∙ cond-true (nat_lt p (slice_index xs v)) _ _ (lt-ltb p (slice_index xs v) h) ∙ sym (ap (top xs) e)
-
-pub top_length : (xs : List ℕ) (n : ℕ) → length (top xs n) ≡ n
-top_length xs zero = refl
-top_length xs (suc n) = ap suc (top_length xs n)
-
-top_set : (xs : List ℕ) (n k e : ℕ) → n ≤ k → top (slice_set xs k e) n ≡ top xs n
-top_set xs zero k e h = refl
-top_set xs (suc n) k e h =
-    let ne : n ≢ k = omega arith in
-    let here : slice_index_or (slice_set xs k e) n 0 ≡ slice_index_or xs n 0 = get_or-set_other xs k n e 0 ne in
-    let below : top (slice_set xs k e) n ≡ top xs n = top_set xs n k e (omega arith) in
-    λ i. here i ∷ below i
-
-pub top_push : (xs : List ℕ) (n e : ℕ) → n < length xs → top (slice_set xs n e) (n + 1) ≡ e ∷ top xs n
-top_push xs n e h =
-    let here : slice_index_or (slice_set xs n e) n 0 ≡ e = get_or-set_same xs n e 0 h in
-    let below : top (slice_set xs n e) n ≡ top xs n = top_set xs n n e (omega arith) in
-    ap (top (slice_set xs n e)) (add-one n) ∙ λ i. here i ∷ below i
-
--- the innermost end is the last in the array
-pub top_inner : (xs : List ℕ) (n v w : ℕ) → n ≡ suc v → inner_end w (top xs n) ≡ slice_index xs v
-top_inner xs n v w e = ap (λ k. inner_end w (top xs k)) e
 
 keep : (p e : ℕ) (es : List ℕ) → p < e → popped p (e ∷ es) ≡ e ∷ es
 keep p e es h = cond-true (nat_lt p e) (e ∷ es) (popped p es) (lt-ltb p e h)

@@ -1,13 +1,14 @@
 -- A label stored in an outline's records.
-use Rattle.std.specs.Prelude.{◌≡◌, ℕ, zero, suc, ◌+◌, ◌<◌, ◌≤◌, Bool, true, cond, List, [], ◌∷◌, length, get_or, is_ok, nat_lt, slice_index_or, slice_set, refl}
+use Rattle.std.specs.Prelude.{◌≡◌, ℕ, zero, suc, ◌+◌, ◌<◌, true, cond, List, [], ◌∷◌, length, get_or, None, Option, is_none, is_ok, nat_lt, slice_index_or, slice_set, refl}
+use Rattle.std.specs.Option.{ForSome}
 use Rattle.std.proofs.Common.{ap, sym, ◌∙◌, arith, length-set}
 use Rattle.trees.specs.declared.record.Record.{Record}
 use Rattle.trees.specs.Forest.{Law, relabel}
 use Rattle.trees.specs.Scan.{kept}
 use Rattle.trees.specs.Outlines.{no_record, depth_limit, deeper, outline_nodes, outline_answer}
 use Rattle.trees.specs.Faults.{Fine, Accepted, accepted, accepts}
-use Rattle.trees.specs.Outlining.{length_nodes, outline_law}
-use Rattle.trees.specs.Leaves.{kept_law, kept_sound}
+use Rattle.trees.specs.Outlining.{outline_law}
+use Rattle.trees.specs.Leaves.{kept_law, kept_none}
 
 abbrev pub stored : List Record → ℕ → ℕ → List Record
 stored rs p l = slice_set rs p (record { depth = (get_or rs p no_record).depth; label = l })
@@ -63,15 +64,9 @@ accepted_stored rs p l h a =
 pub sound_stored : (rs : List Record) (p l : ℕ) → l < 32768 → is_ok (outline_answer rs) ≡ true → is_ok (outline_answer (stored rs p l)) ≡ true
 sound_stored rs p l h s = ap is_ok (accepts (stored rs p l) (accepted_stored rs p l h (accepted rs s)))
 
--- the flag is what the check answers
-pub outline_kept : (s : Bool) (rs : List Record) (l : ℕ) → s ≡ is_ok (outline_answer rs) → l < 32768 → Law (kept s (outline_nodes rs) l)
-outline_kept s rs l e h = kept_law s (outline_nodes rs) l (λ t. outline_law rs (accepted rs (sym e ∙ t))) h
+-- no leaf is held beside an outline
+pub outline_kept : (leaf : Option ℕ) (rs : List Record) → is_none leaf ≡ is_ok (outline_answer rs) → ForSome leaf (λ l. l < 32768) → Law (kept leaf (outline_nodes rs))
+outline_kept leaf rs e h = kept_law leaf (outline_nodes rs) (λ t. outline_law rs (accepted rs (sym e ∙ t))) h
 
-pub length_kept : (s : Bool) (rs : List Record) (l : ℕ) → s ≡ true → length rs ≡ length (kept s (outline_nodes rs) l)
-length_kept s rs l e = sym (ap length (kept_sound s (outline_nodes rs) l e) ∙ length_nodes rs)
-
-pub few_kept : (s : Bool) (rs : List Record) → s ≡ true → s ≡ is_ok (outline_answer rs) → length rs ≤ 4096
-few_kept s rs e f = omega (arith, (outline_law rs (accepted rs (sym f ∙ e))).few_nodes, length_nodes rs)
-
-pub put_kept : (s : Bool) (rs : List Record) (b p l : ℕ) → s ≡ true → kept s (outline_nodes (stored rs p l)) b ≡ relabel (kept s (outline_nodes rs) b) p l
-put_kept s rs b p l e = kept_sound s (outline_nodes (stored rs p l)) b e ∙ nodes_stored rs p l ∙ ap (λ m. relabel m p l) (sym (kept_sound s (outline_nodes rs) b e))
+pub put_kept : (leaf : Option ℕ) (rs : List Record) (p l : ℕ) → leaf ≡ None → kept leaf (outline_nodes (stored rs p l)) ≡ relabel (kept leaf (outline_nodes rs)) p l
+put_kept leaf rs p l e = kept_none leaf (outline_nodes (stored rs p l)) e ∙ nodes_stored rs p l ∙ ap (λ m. relabel m p l) (sym (kept_none leaf (outline_nodes rs) e))

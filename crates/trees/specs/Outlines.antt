@@ -8,7 +8,7 @@ use Rattle.refusals.specs.declared.Refusal.{Refusal}
 use Rattle.refusals.specs.Numbers.{refused}
 use Rattle.trees.specs.declared.record.Record.{Record}
 use Rattle.trees.specs.Forest.{Forest, enclosing, label_at}
-use Rattle.trees.specs.Scan.{scan, kept}
+use Rattle.trees.specs.Scan.{scan, leaf}
 
 -- What is read where there is no record.
 abbrev pub no_record : Record
@@ -47,7 +47,7 @@ outline_nodes (r ∷ rs) = record { label = r.label; size = suc (deeper r.depth 
 
 -- What a tree made of records means: their nodes if they are an outline, else a leaf with label 0.
 abbrev pub outline_meaning : List Record → Forest
-outline_meaning rs = kept (is_ok (outline_answer rs)) (outline_nodes rs) 0
+outline_meaning rs = cond (is_ok (outline_answer rs)) (outline_nodes rs) (leaf 0)
 
 -- The outline of a tree: a record for each place, with the number of places above it as the depth.
 abbrev pub outline_of : Forest → List Record

@@ -1,8 +1,9 @@
 -- The nodes of an outline: what is read off the records, and that accepted records keep the law of trees.
-use Rattle.std.specs.Prelude.{◌≡◌, ℕ, zero, suc, ◌+◌, ◌<◌, ◌≤◌, min, cond, ◌⊎◌, List, [], ◌∷◌, length, get_or, drop, nat_lt, slice_index_or, refl}
+use Rattle.std.specs.Prelude.{◌≡◌, ℕ, zero, suc, ◌+◌, ◌<◌, ◌≤◌, min, cond, ◌⊎◌, List, [], ◌∷◌, length, get_or, drop, nat_lt, refl}
 use Rattle.std.proofs.Common.{ap, sym, ◌∙◌, inl, inr, ⊎_elim, arith}
 use Rattle.std.proofs.lemmas.Bool.Decides.{nat_tests}
-use Rattle.std.proofs.lemmas.List.{drop_more}
+use Rattle.std.specs.List.{prefix_len, take_while}
+use Rattle.std.proofs.lemmas.List.Folds.{length-prefix_len}
 use Rattle.std.proofs.lemmas.Bool.{cases_lt, lt-ltb, le-ltb}
 use Rattle.trees.specs.declared.record.Record.{Record}
 use Rattle.trees.specs.Forest.{Node, Forest, Law, size_at, label_at, enclosing}
@@ -29,18 +30,16 @@ deeper_in d r rs h = ap (λ b. cond b (suc (deeper d rs)) 0) (lt-ltb d r.depth h
 deeper_out : (d : ℕ) (r : Record) (rs : List Record) → r.depth ≤ d → deeper d (r ∷ rs) ≡ 0
 deeper_out d r rs h = ap (λ b. cond b (suc (deeper d rs)) 0) (le-ltb d r.depth h)
 
--- the steps of a count
-pub deeper_more : (d : ℕ) (rs : List Record) (i : ℕ) → i < length rs → d < (get_or rs i no_record).depth → deeper d (drop i rs) ≡ suc (deeper d (drop (i + 1) rs))
-deeper_more d rs i h l = ap (deeper d) (drop_more rs i no_record h) ∙ deeper_in d (slice_index_or rs i no_record) (drop (i + 1) rs) l
-
-pub deeper_stop : (d : ℕ) (rs : List Record) (i : ℕ) → i < length rs → (get_or rs i no_record).depth ≤ d → deeper d (drop i rs) ≡ 0
-deeper_stop d rs i h l = ap (deeper d) (drop_more rs i no_record h) ∙ deeper_out d (slice_index_or rs i no_record) (drop (i + 1) rs) l
-
-pub deeper_end : (d : ℕ) (rs : List Record) (i : ℕ) → length rs ≤ i → deeper d (drop i rs) ≡ 0
-deeper_end d [] zero h = refl
-deeper_end d [] (suc i) h = refl
-deeper_end d (x ∷ xs) zero h = absurd (omega arith)
-deeper_end d (x ∷ xs) (suc i) h = deeper_end d xs i (omega arith)
+-- the deeper records, counted as a chain counts them
+pub deeper_count : (d : ℕ) (rs : List Record) → deeper d rs ≡ length (take_while (λ r. nat_lt d r.depth) rs)
+deeper_count d rs = prefix d rs ∙ sym (length-prefix_len (λ r. nat_lt d r.depth) rs)
+  where
+    prefix : (d : ℕ) (rs : List Record) → deeper d rs ≡ prefix_len (λ r. nat_lt d r.depth) rs
+    prefix d [] = refl
+    prefix d (r ∷ rs) =
+        let ih = prefix d rs in
+        let e : suc (deeper d rs) ≡ 1 + prefix_len (λ x. nat_lt d x.depth) rs = omega arith in
+        ap (λ n. cond (nat_lt d r.depth) n 0) e
 
 -- a count that is known by where it stops
 pub deeper_to : (d : ℕ) (rs : List Record) (n : ℕ) → n ≤ length rs → ((k : ℕ) → k < n → d < (get_or rs k no_record).depth) → (n < length rs → (get_or rs n no_record).depth ≤ d) → deeper d rs ≡ n

@@ -1,5 +1,5 @@
 -- A scan over records that stops at the first one at fault, and the tree that faulty records give.
-use Rattle.std.specs.Prelude.{ℕ, zero, suc, Bool, true, false, [], ◌∷◌, Some, None, Ok, Err, Option, Result}
+use Rattle.std.specs.Prelude.{ℕ, zero, suc, [], ◌∷◌, Some, None, Ok, Err, Option, Result}
 use Rattle.refusals.specs.declared.Cause.{Cause}
 use Rattle.refusals.specs.declared.Refusal.{Refusal}
 use Rattle.trees.specs.Forest.{Forest}
@@ -18,7 +18,7 @@ scan fault refusal p (suc n) = unless (fault p) (λ c. Err (refusal p c)) (scan 
 abbrev pub leaf : ℕ → Forest
 leaf l = record { label = l; size = 1 } ∷ []
 
--- What a make means: the nodes of its records if they are sound, else the leaf beside them.
-abbrev pub kept : Bool → Forest → ℕ → Forest
-kept true m l = m
-kept false m l = leaf l
+-- What a make means: the leaf with the label that is held beside its records, or their nodes where none is held.
+abbrev pub kept : Option ℕ → Forest → Forest
+kept None m = m
+kept (Some l) m = leaf l

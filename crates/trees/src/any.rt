@@ -7,35 +7,26 @@ ghost use Rattle.trees.specs.Questions.{replace_answer};
 use crate::{ChangeableTree, Tree};
 use refusals::Refusal;
 
-/// Whether two trees have the same node at a place.
+/// Whether two trees answer alike at a place.
 fn same_at<A: Tree, B: Tree>(a: &A, b: &B, place: usize) -> bool
-    requires { (place < length (A.Meant.meaning a.now)) × (place < length (B.Meant.meaning b.now)) }
-    ensures { result ≡ same_node (slice_index_or (A.Meant.meaning a.now) place no_node) (slice_index_or (B.Meant.meaning b.now) place no_node) }
+    ensures { place < length (A.Meant.meaning a.now) → place < length (B.Meant.meaning b.now) → result ≡ same_node (slice_index_or (A.Meant.meaning a.now) place no_node) (slice_index_or (B.Meant.meaning b.now) place no_node) }
 {
-    a.label(place).unwrap() == b.label(place).unwrap()
-        && a.size(place).unwrap() == b.size(place).unwrap()
+    a.label(place) == b.label(place) && a.size(place) == b.size(place)
 }
 
 /// Whether two trees, of whatever makes, are the same tree: just then they answer every question alike.
+#[tactic(auto, using(crate::proofs::Same::same_is_equal, crate::proofs::Comparing::makes_agree))]
 pub fn same_tree<A: Tree, B: Tree>(a: &A, b: &B) -> bool
     ensures value { result ≡ same (A.Meant.meaning a.now) (B.Meant.meaning b.now) }
     ensures alike { ((result ≡ true → Alike (A.Meant.meaning a.now) (B.Meant.meaning b.now))) × ((Alike (A.Meant.meaning a.now) (B.Meant.meaning b.now) → result ≡ true)) }
     ensures equal { SameIsEqual }
     ensures makes { MakesAgree }
 {
-    let places = a.places();
-    if places != b.places() {
-        return false;
-    }
-    for place in 0..places {
-        if !same_at(a, b, place) {
-            return false;
-        }
-    }
-    true
+    a.places() == b.places() && (0..a.places()).all(|place| same_at(a, b, place))
 }
 
 /// Puts a label at a place, and answers the label that stood there, which takes the change back.
+#[tactic(auto, using(crate::proofs::Relabel::relabel_goes_back, crate::proofs::Relabel::relabel_keeps_the_law))]
 pub fn replace_label<T: ChangeableTree>(
     tree: &mut T,
     place: usize,

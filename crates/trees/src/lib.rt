@@ -8,6 +8,7 @@ ghost use Rattle.trees.specs.Questions.{label_answer, size_answer, put_answer};
 use refusals::Refusal;
 
 pub mod any;
+mod checks;
 pub mod image;
 pub mod limits;
 pub mod outline;

@@ -9,19 +9,13 @@ use crate::limits::RECORD_BYTES;
 use refusals::{Cause, Layer, Refusal};
 
 /// The record of a node.
-fn record_of(label: u16, size: usize) -> [u8; 6]
+fn record_of(label: u16, size: usize) -> [u8; RECORD_BYTES]
     requires { size ≤ 4096 }
     ensures { result ≡ node_bytes (record { label = label; size = size }) }
 {
-    let length = RECORD_BYTES * size;
-    [
-        (length % 256) as u8,
-        (length / 256 % 256) as u8,
-        (length / 256 / 256 % 256) as u8,
-        (length / 256 / 256 / 256 % 256) as u8,
-        (label % 256) as u8,
-        (label / 256 % 256) as u8,
-    ]
+    let [a, b, c, d] = ((RECORD_BYTES * size) as u32).to_le_bytes();
+    let [low, high] = label.to_le_bytes();
+    [a, b, c, d, low, high]
 }
 
 /// Writes a tree as an image into the beginning of some bytes, and answers how many it took.
@@ -34,6 +28,7 @@ pub fn write_image<T: Tree>(tree: &T, out: &mut [u8]) -> Result<usize, Refusal>
     if out.len() < RECORD_BYTES * places {
         return Err(Refusal::at(Cause::NoRoom, Layer::Image, 0));
     }
+    // Kept as an index: what `chunks_exact_mut` or `as_chunks_mut` lends is not known in `out` afterwards, so `bytes` was left open.
     for place in 0..places {
         let label = tree.label(place).unwrap();
         let size = tree.size(place).unwrap();

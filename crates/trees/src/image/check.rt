@@ -1,84 +1,68 @@
-// The check of an image's bytes: one walk, with the ends of the open subtrees in an array.
-ghost use Rattle.std.specs.Prelude.{◌≡◌, ℕ, ◌+◌, ◌*◌, ◌<◌, ◌≤◌, length, None};
-ghost use Rattle.trees.specs.Images.{RecordBytes, image_answer, inner_end, place_fault};
+// The check of an image's bytes: one walk, with the ends of the open subtrees in a vector of fixed room.
+ghost use Rattle.std.specs.Prelude.{◌≡◌, ◌/◌, None, Some, MatchResult, reverse};
+ghost use Rattle.trees.specs.Images.{image_answer, length_in, place_fault};
 ghost use Rattle.trees.specs.Laws.{OneImage, TakesImages};
-ghost use Rattle.trees.specs.Opened.{popped, top};
+ghost use Rattle.trees.specs.Opened.{popped};
 
-use crate::image::head::{head_at, length_at};
+use crate::image::head::head_at;
 use crate::limits::{MAX_DEPTH, MAX_LABEL, MAX_PLACES, RECORD_BYTES};
+use arrayvec::ArrayVec;
 use refusals::{Cause, Layer, Refusal};
 
-/// How many of the first `open` ends are left when those that lie at or before a place are taken off.
-fn pop(ends: &[usize], open: usize, place: usize) -> usize
-    requires { «open» ≤ length ends.now }
-    ensures ends { top ends.now result ≡ popped place (top ends.now «open») }
-    ensures fewer { result ≤ «open» }
+/// The ends of the subtrees around a place, the innermost last.
+type Ends = ArrayVec<usize, 64>;
+
+/// Takes off the ends that lie at or before a place.
+fn close(ends: &mut Ends, place: usize)
+    ensures { reverse ends.new.items ≡ popped place (reverse ends.old.items) }
 {
-    let mut n = open;
-    while n > 0 {
-        if ends[n - 1] > place {
-            return n;
-        }
-        n -= 1;
+    while ends.last().is_some_and(|end| *end <= place) {
+        ends.pop();
     }
-    n
 }
 
-/// The innermost of the first `open` ends, or the end of all where there is none.
-fn innermost(ends: &[usize], open: usize, whole: usize) -> usize
-    requires { «open» ≤ length ends.now }
-    ensures { result ≡ inner_end whole (top ends.now «open») }
-{
-    if open == 0 { whole } else { ends[open - 1] }
-}
-
-/// What is wrong with the record of a place that lies at a depth and has to end before a place.
-fn fault(bytes: &[u8], place: usize, depth: usize, end: usize) -> Option<Cause>
-    requires { 6 * place < length bytes.now }
-    ensures value { result ≡ place_fault bytes.now place depth end }
-    ensures bytes { result ≡ None → RecordBytes bytes.now place }
+/// The size that the record of a place gives, where it lies at a depth and has to end before a place, or what is wrong with it.
+fn checked_size(bytes: &[u8], place: usize, depth: usize, end: usize) -> Result<usize, Cause>
+    ensures { MatchResult result
+        (λ size. (place_fault bytes.now place depth end ≡ None) × (size ≡ length_in bytes.now place / 6))
+        (λ cause. place_fault bytes.now place depth end ≡ Some cause) }
 {
     if place > 0 && depth == 0 {
-        return Some(Cause::OneTree);
+        return Err(Cause::OneTree);
     }
-    if bytes.len() < RECORD_BYTES * place + RECORD_BYTES {
-        return Some(Cause::BadLength);
-    }
-    let head = head_at(bytes, place);
-    if head.length < RECORD_BYTES
-        || place + head.length / RECORD_BYTES > end
-        || head.length % RECORD_BYTES > 0
-    {
-        Some(Cause::BadLength)
-    } else if head.label > MAX_LABEL {
-        Some(Cause::BadLabel)
-    } else if place >= MAX_PLACES || depth > MAX_DEPTH as usize {
-        Some(Cause::TooMany)
+    let head = head_at(bytes, place).ok_or(Cause::BadLength)?;
+    let length = head.length as usize;
+    let size = length / RECORD_BYTES;
+    if length < RECORD_BYTES || place + size > end || length % RECORD_BYTES > 0 {
+        Err(Cause::BadLength)
+    } else if head.kind > MAX_LABEL {
+        Err(Cause::BadLabel)
+    } else if place >= MAX_PLACES || depth > usize::from(MAX_DEPTH) {
+        Err(Cause::TooMany)
     } else {
-        None
+        Ok(size)
     }
 }
 
 /// Checks bytes, and answers how many places their tree has.
+#[tactic(auto, using(crate::proofs::ImageOf::one_image))]
 pub fn check_image(bytes: &[u8]) -> Result<usize, Refusal>
     ensures value { result ≡ image_answer bytes.now }
     ensures exact { TakesImages bytes.now result }
     ensures one { OneImage }
 {
-    if bytes.len() == 0 {
+    if bytes.is_empty() {
         return Err(Refusal::at(Cause::OneTree, Layer::Image, 0));
     }
     let whole = bytes.len() / RECORD_BYTES;
-    let mut ends = [0usize; 64];
-    let mut used = 0usize;
-    for place in 0..(bytes.len() + 5) / RECORD_BYTES {
-        let depth = pop(&ends, used, place);
-        let end = innermost(&ends, depth, whole);
-        if let Some(cause) = fault(bytes, place, depth, end) {
-            return Err(Refusal::at(cause, Layer::Image, RECORD_BYTES * place));
+    let mut ends = Ends::new();
+    for place in 0..bytes.len().div_ceil(RECORD_BYTES) {
+        close(&mut ends, place);
+        let end = ends.last().copied().unwrap_or(whole);
+        match checked_size(bytes, place, ends.len(), end) {
+            Ok(size) => ends.push(place + size),
+            Err(cause) => return Err(Refusal::at(cause, Layer::Image, RECORD_BYTES * place)),
         }
-        ends[depth] = place + length_at(bytes, place) / RECORD_BYTES;
-        used = depth + 1;
     }
     Ok(whole)
 }

@@ -29,13 +29,12 @@ pub fn check_outline(records: &[Record]) -> Result<usize, Refusal>
     ensures value { result ≡ outline_answer records.now }
     ensures exact { TakesOutlines records.now result }
 {
-    if records.len() == 0 {
+    if records.is_empty() {
         return Err(Refusal::at(Cause::OneTree, Layer::Tree, 0));
     }
     let mut limit = 0u16;
-    for i in 0..records.len() {
-        let entry = records[i];
-        if let Some(cause) = fault(i, limit, entry) {
+    for (i, entry) in records.iter().enumerate() {
+        if let Some(cause) = fault(i, limit, *entry) {
             return Err(Refusal::at(cause, Layer::Tree, i));
         }
         limit = entry.depth + 1;

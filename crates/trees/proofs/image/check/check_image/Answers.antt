@@ -1,43 +1,44 @@
 -- What the proof of `image::check::check_image` is asked to show.
-use Rattle.std.proofs.Common.{◌≡◌, ◌+◌, ◌/◌, Some, None, Err, sym, refl, ap, ◌∙◌, arith, length-set, rules, below_more}
-use Rattle.trees.specs.Images.{image_fault, image_answer}
+use Rattle.std.proofs.Common.{◌≡◌, ◌+◌, ◌-◌, ◌/◌, Some, None, Err, length, reverse, sym, ap, subst, ◌∙◌, arith, below_more}
+use Rattle.std.specs.Prelude.{slice_get}
+use Rattle.std.specs.Option.{unwrap_or}
+use Rattle.std.proofs.lemmas.Bool.{eqb-false}
+use Rattle.trees.specs.Images.{around, image_nodes, image_fault, inner_end}
+use Rattle.trees.specs.Opens.{Opened}
 use Rattle.trees.specs.Imaging.{fit, Fit, image_stops, takes, Taken}
-use Rattle.trees.proofs.ImageOf.{takes_images, takes_none, one_image}
-use Rattle.trees.proofs.Walks.{walk_fault, walk_more}
+use Rattle.trees.proofs.ImageOf.{takes_images, one_image}
+use Rattle.trees.proofs.Walks.{last_end, walk_fault, walk_more}
 use Rattle.trees.proofs.image.check.check_image.Goals as goal
 
-pub returns-in-Some : goal.returns-in-Some
-returns-in-Some c =
+pub returns-in-Err : goal.returns-in-Err
+returns-in-Err c =
     let bs = c.args.bytes.now in
     let p = c.loop-place.place in
-    let here : image_fault bs p ≡ Some c.in-Some.cause = walk_fault bs p c.loop-place.used c.pop-depth.result c.innermost-end.result c.loop-place.ends _ c.loop-place.invariant.1 c.pop-depth.ensures.ends c.innermost-end.ensures c.in-Some.ensures.value in
-    let value = ap Err c.at-in-Some.ensures ∙ sym (image_stops bs p c.in-Some.cause c.loop-place.invariant.0 c.loop-place-test.true here) in
-    record { value = value; exact = takes_none bs _ _ value refl; one = one_image }
+    let es = c.close.new.ends.items in
+    let a : reverse es ≡ around (image_nodes bs) p p = c.close.ensures ∙ c.loop-place.invariant.1 p (omega arith) in
+    let e : c.unwrap_or-end.result ≡ inner_end (length bs / 6) (reverse es) = c.unwrap_or-end.ensures ∙ ap (λ o. unwrap_or o (length bs / 6)) (c.copied.ensures ∙ c.last.ensures.value ∙ ap (λ xs. slice_get xs (length xs - 1)) c.deref.ensures.0) ∙ last_end (length bs / 6) es in
+    let here : image_fault bs p ≡ Some c.in-Err.cause = walk_fault bs p c.len.result c.unwrap_or-end.result es _ a c.len.ensures.value e c.in-Err.ensures in
+    let value = ap Err c.at-in-Err.ensures ∙ sym (image_stops bs p c.in-Err.cause c.loop-place.invariant.0 (omega (arith, c.div_ceil-place-end.ensures, c.loop-place-test.true)) here) in
+    record { value = value; exact = takes_images bs _ value (λ k. omega (arith, c.type_inv.bytes k)); one = one_image }
 
 pub loop-place-preserved : goal.loop-place-preserved
 loop-place-preserved c =
     let bs = c.args.bytes.now in
     let p = c.loop-place.place in
-    let k = c.pop-depth.result in
-    let here : image_fault bs p ≡ None = walk_fault bs p c.loop-place.used k c.innermost-end.result c.loop-place.ends _ c.loop-place.invariant.1 c.pop-depth.ensures.ends c.innermost-end.ensures c.in_default.ensures.value in
-    let f : Fit bs p k c.innermost-end.result = fit bs p k c.innermost-end.result (sym c.in_default.ensures.value) in
+    let es = c.close.new.ends.items in
+    let a : reverse es ≡ around (image_nodes bs) p p = c.close.ensures ∙ c.loop-place.invariant.1 p (omega arith) in
+    let e : c.unwrap_or-end.result ≡ inner_end (length bs / 6) (reverse es) = c.unwrap_or-end.ensures ∙ ap (λ o. unwrap_or o (length bs / 6)) (c.copied.ensures ∙ c.last.ensures.value ∙ ap (λ xs. slice_get xs (length xs - 1)) c.deref.ensures.0) ∙ last_end (length bs / 6) es in
+    let here : image_fault bs p ≡ None = walk_fault bs p c.len.result c.unwrap_or-end.result es _ a c.len.ensures.value e c.in-Ok.ensures.0 in
+    let f : Fit bs p c.len.result c.unwrap_or-end.result = fit bs p c.len.result c.unwrap_or-end.result c.in-Ok.ensures.0 in
     let clean = below_more _ _ c.loop-place.invariant.0 here in (
       clean,
-      walk_more bs p c.loop-place.used k (p + c.length_at.result / 6) c.loop-place.ends (omega (arith, f.room)) clean c.loop-place.invariant.1 c.pop-depth.ensures.ends (omega (arith, f.low, c.loop-place.invariant.3)) (ap (λ n. p + n / 6) c.length_at.ensures.value),
-      omega (arith, f.low),
-      length-set c.loop-place.ends k (p + c.length_at.result / 6) ∙ c.loop-place.invariant.3,
-      below_more _ _ c.loop-place.invariant.4 (c.in_default.ensures.bytes refl),
+      subst (λ xs. Opened (image_nodes bs) (p + 1) (reverse xs)) (sym c.push.ensures.items) (walk_more bs p c.in-Ok.size c.loop-place.ends.items es (omega (arith, f.room)) (λ q i. fit bs q _ _ (clean q i)) c.loop-place.invariant.1 c.close.ensures c.in-Ok.ensures.1),
+      omega (arith, f.low, c.len.ensures.value, c.push.ensures.len),
     )
 
 pub returns : goal.returns
 returns c =
     let bs = c.args.bytes.now in
-    let t : Taken bs = record { some = omega arith; each = λ p l. fit bs p _ _ (c.loop-place.invariant.0 p (omega arith)) } in
+    let t : Taken bs = record { some = omega (arith, eqb-false (length bs) 0 (sym c.if-is_empty.ensures)); each = λ p l. fit bs p _ _ (c.loop-place.invariant.0 p (omega (arith, c.div_ceil-place-end.ensures))) } in
     let value = sym (takes bs t) in
-    record { value = value; exact = takes_images bs _ value (λ h p l. c.loop-place.invariant.4 p (omega arith)); one = one_image }
-
-pub returns-then-bytes-eq0 : goal.returns-then-bytes-eq0
-returns-then-bytes-eq0 c =
-    let bs = c.args.bytes.now in
-    let value : Err c.at.result ≡ image_answer bs = search rules in
-    record { value = value; exact = takes_none bs _ _ value refl; one = one_image }
+    record { value = value; exact = takes_images bs _ value (λ k. omega (arith, c.type_inv.bytes k)); one = one_image }

@@ -1,6 +1,7 @@
 -- What the proof of `outline::check::check_outline` is asked to show.
-use Rattle.std.proofs.Common.{◌≡◌, get_or, Some, None, Err, sym, ap, ◌∙◌, add-one, arith, rules, below_more}
-use Rattle.trees.specs.Outlines.{no_record, depth_limit, record_fault, outline_fault, outline_answer}
+use Rattle.std.proofs.Common.{◌≡◌, length, get_or, Some, None, Err, sym, ap, ◌∙◌, add-one, arith, below_more}
+use Rattle.std.proofs.lemmas.Bool.{eqb-false}
+use Rattle.trees.specs.Outlines.{no_record, depth_limit, record_fault, outline_fault}
 use Rattle.trees.specs.Faults.{outline_stops, outline_passes, fine}
 use Rattle.trees.proofs.OutlineOf.{takes_outlines}
 use Rattle.trees.proofs.outline.check.check_outline.Goals as goal
@@ -24,11 +25,5 @@ loop-i-preserved c =
 pub returns : goal.returns
 returns c =
     let rs = c.args.records.now in
-    let value = sym (outline_passes rs (omega arith) (λ k l. c.loop-i.invariant.0 k (omega arith))) in
-    record { value = value; exact = takes_outlines rs _ value }
-
-pub returns-then-records-eq0 : goal.returns-then-records-eq0
-returns-then-records-eq0 c =
-    let rs = c.args.records.now in
-    let value : Err c.at.result ≡ outline_answer rs = search rules in
+    let value = sym (outline_passes rs (omega (arith, eqb-false (length rs) 0 (sym c.if-is_empty.ensures))) (λ k l. c.loop-i.invariant.0 k (omega arith))) in
     record { value = value; exact = takes_outlines rs _ value }

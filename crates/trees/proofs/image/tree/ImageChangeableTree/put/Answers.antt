@@ -1,12 +1,13 @@
--- What the proof of `image::tree::ImageChangeable::put` is asked to show.
-use Rattle.std.proofs.Common.{◌/◌, ◌<◌, length, arith}
-use Rattle.trees.specs.Imaging.{many}
-use Rattle.trees.specs.ImagePuts.{length_kept, few_kept}
+-- What the proof of `image::tree::ImageChangeableTree::put` is asked to show.
+use Rattle.std.proofs.Common.{arith}
+use Rattle.trees.specs.Leaves.{length_kept}
+use Rattle.trees.specs.ImagePuts.{image_kept}
+use Rattle.trees.specs.Images.{image_nodes}
 use Rattle.trees.proofs.image.tree.ImageChangeableTree.put.Goals as goal
 
 pub store-requires : goal.store-requires
 store-requires c =
     let s = c.args.self.now in
     let bs = s.bytes.now in
-    let lt : c.args.place < length bs / 6 = omega (arith, length_kept s.sound bs s.leaf c.if-self.true) in
-    (omega (arith, many bs), (omega (arith, few_kept s.sound bs c.if-self.true s.checked), (omega arith, c.if-self.true)))
+    let law = image_kept s.leaf bs s.checked s.low in
+    (omega (arith, length_kept s.leaf (image_nodes bs) c.in-None.is), (omega (arith, law.few_nodes), (c.in_ok-check_label.ensures, c.in-None.is)))
