@@ -5,28 +5,26 @@ ghost use Rattle.patterns.specs.Elements.{element_at, ends, around, Sits, WellFo
 use crate::limits::{MAX_ELEMENTS, MAX_GROUPS};
 use crate::row::{Element, Row};
 
-// How many of the elements before i have the element at i in them.
-fn groups_around(elements: &[Element], i: usize) -> usize
-    requires { i < length elements.now }
-    ensures { result ≡ around elements.now i i }
+// How many of these elements have the one behind them in them.
+fn groups_around(before: &[Element]) -> usize
+    ensures { let i = length before.now in result ≡ around before.now i i }
 {
-    elements[..i]
+    before
         .iter()
         .enumerate()
-        .filter(|(g, outer)| i < g + outer.extent())
+        .filter(|(g, outer)| before.len() < g + outer.extent())
         .count()
 }
 
-// Whether the element at i ends inside each group that holds it, where it ends at end.
-fn is_nested(elements: &[Element], i: usize, end: usize) -> bool
-    requires { i < length elements.now }
-    ensures { Decides result ((g : ℕ) → g < i → i < ends elements.now g → end ≤ ends elements.now g) }
+// Whether the element behind these ends inside each group that holds it, where it ends at end.
+fn is_nested(before: &[Element], end: usize) -> bool
+    ensures { let i = length before.now in Decides result ((g : ℕ) → g < i → i < ends before.now g → end ≤ ends before.now g) }
 {
-    elements[..i]
+    before
         .iter()
         .enumerate()
         .map(|(g, outer)| g + outer.extent())
-        .all(|outer| outer <= i || end <= outer)
+        .all(|outer| outer <= before.len() || end <= outer)
 }
 
 // Whether the element at i is well formed.
@@ -34,12 +32,13 @@ fn sits(elements: &[Element], i: usize) -> bool
     requires { i < length elements.now }
     ensures { Decides result (Sits elements.now i) }
 {
+    let before = &elements[..i];
     let element = elements[i];
     let end = i + element.extent();
     element.is_sized()
         && end <= elements.len()
-        && is_nested(elements, i, end)
-        && groups_around(elements, i) <= MAX_GROUPS
+        && is_nested(before, end)
+        && groups_around(before) <= MAX_GROUPS
 }
 
 // Whether each element is well formed.

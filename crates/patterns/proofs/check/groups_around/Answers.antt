@@ -1,6 +1,7 @@
 -- The groups around an element are the elements before it that end behind it.
 use Rattle.std.proofs.Common.{Bool, rules, ◌≡◌, ℕ, zero, suc, ◌+◌, ◌<◌, ◌≤◌, ltb, cond, List, length, take, drop, sym, ap, ◌∙◌, arith, tests, drop-cons, add-one, add-zero, zero-add}
 use Rattle.std.specs.List.{fold, enumerate_from}
+use Rattle.std.proofs.Math.Seq.{take-length}
 use Rattle.std.proofs.lemmas.List.Sums.{length-filter}
 use Rattle.std.proofs.lemmas.Iterator.{YieldsList-from_slice}
 use Rattle.std.proofs.lemmas.Iterator.Consumers.{YieldsList-from_enumerate, YieldsList-from_filter, YieldsList-at, count_from_yields_List}
@@ -23,8 +24,11 @@ counted es i (suc n) k h =
 
 pub returns : goal.returns
 returns c =
+    let es = c.args.before.now in
+    let i = length es in
     count_from_yields_List _ _ c.count.ensures.ran
-    (YieldsList-from_filter _ (holds c.args.i) (YieldsList-at c.filter.ensures.source (YieldsList-from_enumerate (YieldsList-at c.enumerate.ensures.source (YieldsList-from_slice _ c.iter.ensures.rest)) c.enumerate.ensures.count)) c.filter.ensures.closure (λ x r q k. search (rules, tests)))
-    ∙ length-filter (holds c.args.i) (enumerate_from 0 (take c.args.i c.args.elements.now))
-    ∙ counted c.args.elements.now c.args.i c.args.i 0 (omega arith)
-    ∙ ap (around c.args.elements.now c.args.i) (zero-add c.args.i)
+    (YieldsList-from_filter _ (holds i) (YieldsList-at c.filter.ensures.source (YieldsList-from_enumerate (YieldsList-at c.enumerate.ensures.source (YieldsList-from_slice _ c.iter.ensures.rest)) c.enumerate.ensures.count)) c.filter.ensures.closure (λ x r q k. search (rules, tests)))
+    ∙ length-filter (holds i) (enumerate_from 0 es)
+    ∙ ap (λ fs. fold (λ (a : ℕ) p. a + cond (holds i p) 1 0) 0 (enumerate_from 0 fs)) (sym (take-length es))
+    ∙ counted es i i 0 (omega arith)
+    ∙ ap (around es i) (zero-add i)
