@@ -2,8 +2,8 @@
 use Rattle.std.proofs.Common.{◌≡◌, ℕ, ◌+◌, ◌*◌, ◌<◌, ◌≤◌, Bool, true, false, cond, ltb, List, length, replicate, is_ok, Some, None, Ok, Err, Option, Result, sym, refl, ap, ◌∙◌, subst, ⊎_elim, zero-add, arith}
 use Rattle.std.proofs.lemmas.Bool.{cases_lt, cond-true, cond-false, lt-ltb, le-ltb, ltb-true}
 use Rattle.refusals.specs.declared.Refusal.{Refusal}
-use Rattle.trees.specs.Forest.{Forest, Law, size_at, label_at, subtree}
-use Rattle.trees.specs.Questions.{size_answer, label_answer, no_such_place}
+use Rattle.trees.specs.Forest.{Forest, Law, size_at, subtree}
+use Rattle.trees.specs.Questions.{size_answer, no_such_place}
 use Rattle.trees.specs.Windows.{sound}
 use Rattle.patterns.specs.declared.row.Element.{Element}
 use Rattle.patterns.specs.Elements.{WellFormed}
@@ -11,7 +11,7 @@ use Rattle.matching.specs.declared.found.Match.{Match}
 use Rattle.matching.specs.Rules.{Bindings, Outcome, tick, match_at_lem, walks}
 use Rattle.matching.specs.Readings.{Reads, bound_trees}
 use Rattle.matching.specs.Laws.{moved_bound}
-use Rattle.matching.specs.Answers.{ended, answered_by, match_answer, steps_of, moved_answer, MatchLaws}
+use Rattle.matching.specs.Answers.{answered_by, match_answer, steps_of, moved_answer, MatchLaws}
 use Rattle.matching.proofs.Fuel.{match_walks}
 use Rattle.matching.proofs.Reading.{match_is_a_reading}
 use Rattle.matching.proofs.Plainly.{plain_readings_match}
@@ -21,7 +21,7 @@ use Rattle.matching.proofs.Elsewhere.{subtree_alone}
 abbrev Answer : Type 0
 Answer = Result Match Refusal
 
--- the size at a place of the tree, and the refusal of any other
+-- the size at a place of the tree
 pub size_there : (m : Forest) (p n : ℕ) → Ok n ≡ size_answer m p → (p < length m) × (n ≡ size_at m p)
 size_there m p n h = go (ltb p (length m)) refl h
   where
@@ -29,30 +29,10 @@ size_there m p n h = go (ltb p (length m)) refl h
     go true e h = (ltb-true p (length m) e, cc)
     go false e h = let z : ◌≡◌ {A = ℕ} 0 1 = cc in absurd (omega arith)
 
-refused_by : (m : Forest) (es : List Element) (p : ℕ) (e : Refusal) (v : ℕ) → Err e ≡ cond (ltb p (length m)) (Ok v) (Err no_such_place) → Err e ≡ match_answer m es p
-refused_by m es p e v h = go (ltb p (length m)) h
-  where
-    go : (t : Bool) → ◌≡◌ {A = Result ℕ Refusal} (Err e) (cond t (Ok v) (Err no_such_place)) → ◌≡◌ {A = Answer} (Err e) (cond t (answered_by (match_at_lem m es p).bound (match_at_lem m es p).steps) (Err no_such_place))
-    go true h = let z : ◌≡◌ {A = ℕ} 0 1 = cc in absurd (omega arith)
-    go false h = cc
-
-pub size_refused : (m : Forest) (es : List Element) (p : ℕ) (e : Refusal) → Err e ≡ size_answer m p → Err e ≡ match_answer m es p
-size_refused m es p e h = refused_by m es p e (size_at m p) h
-
-pub label_there : (m : Forest) (p n : ℕ) → Ok n ≡ label_answer m p → n ≡ label_at m p
-label_there m p n h = go (ltb p (length m)) h
-  where
-    go : (t : Bool) → ◌≡◌ {A = Result ℕ Refusal} (Ok n) (cond t (Ok (label_at m p)) (Err no_such_place)) → n ≡ label_at m p
-    go true h = cc
-    go false h = let z : ◌≡◌ {A = ℕ} 0 1 = cc in absurd (omega arith)
-
-pub label_refused : (m : Forest) (es : List Element) (p : ℕ) (e : Refusal) → Err e ≡ label_answer m p → Err e ≡ match_answer m es p
-label_refused m es p e h = refused_by m es p e (label_at m p) h
-
 -- what the level at the place comes to
-pub match_ended : (m : Forest) → Law m → (es : List Element) (p n : ℕ) → p < length m → n ≡ size_at m p → (t : Bool) (a : Match) → ended t a ≡ tick 0 (walks m es p (p + n) (replicate 16 None)) → match_answer m es p ≡ answered_by (ended t a).bound (ended t a).steps
-match_ended m l es p n h k t a i =
-    let e : match_at_lem m es p ≡ ended t a = match_walks m (sound m l) es p h ∙ ap (λ (x : ℕ). walks m es p (p + x) (replicate 16 None)) (sym k) ∙ (λ r. record { bound = (walks m es p (p + n) (replicate 16 None)).bound; steps = sym (zero-add (walks m es p (p + n) (replicate 16 None)).steps) r }) ∙ sym i in
+pub match_ended : (m : Forest) → Law m → (es : List Element) (p n : ℕ) → p < length m → n ≡ size_at m p → (found : Outcome) → found ≡ tick 0 (walks m es p (p + n) (replicate 16 None)) → match_answer m es p ≡ answered_by found.bound found.steps
+match_ended m l es p n h k found i =
+    let e : match_at_lem m es p ≡ found = match_walks m (sound m l) es p h ∙ ap (λ (x : ℕ). walks m es p (p + x) (replicate 16 None)) (sym k) ∙ (λ r. record { bound = (walks m es p (p + n) (replicate 16 None)).bound; steps = sym (zero-add (walks m es p (p + n) (replicate 16 None)).steps) r }) ∙ sym i in
     cond-true (ltb p (length m)) _ (Err no_such_place) (lt-ltb p (length m) h) ∙ ap (λ (o : Outcome). answered_by o.bound o.steps) e
 
 module _ (m : Forest) (l : Law m) (es : List Element) (f : WellFormed es) (p : ℕ) where

@@ -1,21 +1,17 @@
 -- What a binding comes to, and how a walk goes on behind it.
-use Rattle.std.proofs.Common.{◌≡◌, ℕ, ◌+◌, ◌<◌, ◌≤◌, Bool, true, false, cond, length, get_or, set, Some, None, Option, sym, refl, ap, ◌∙◌, ⊎_elim, add-zero, add_assoc, zero-add, arith}
+use Rattle.std.proofs.Common.{◌≡◌, ℕ, ◌+◌, ◌≤◌, Bool, true, false, cond, set, Some, None, Option, sym, refl, ap, ◌∙◌, add-zero, add_assoc, zero-add, arith}
 use Rattle.trees.specs.Forest.{Forest, size_at, subtree, same, compared}
-use Rattle.matching.specs.declared.found.Match.{Match}
 use Rattle.matching.specs.Rules.{Bindings, Outcome, tick, fails, settled, after, after_bound, bind}
-use Rattle.matching.specs.Levels.{BoundInside}
-use Rattle.matching.specs.Answers.{ended}
-use Rattle.matching.proofs.Winning.{set_some}
 use Rattle.matching.proofs.Steps.{compared_most, subtree_most}
 
 pub tick_tick : (a b : ℕ) (o : Outcome) → tick a (tick b o) ≡ tick (a + b) o
 tick_tick a b o = λ i. record { bound = o.bound; steps = sym (add_assoc a b o.steps) i }
 
-pub tick_settled : (n : ℕ) (b : Bindings) → tick n (settled b) ≡ ended true (record { places = b; steps = n })
+pub tick_settled : (n : ℕ) (b : Bindings) → tick n (settled b) ≡ record { bound = Some b; steps = n }
 tick_settled n b = λ i. record { bound = Some b; steps = add-zero n i }
 
-pub tick_fails : (n : ℕ) (b : Bindings) → tick n fails ≡ ended false (record { places = b; steps = n })
-tick_fails n b = λ i. record { bound = None; steps = add-zero n i }
+pub tick_fails : (n : ℕ) → tick n fails ≡ record { bound = None; steps = n }
+tick_fails n = λ i. record { bound = None; steps = add-zero n i }
 
 tick_after : (n : ℕ) (o : Outcome) (k : Bindings → Outcome) → tick n (after o k) ≡ after (tick n o) k
 tick_after n o k = go o.bound
@@ -25,8 +21,8 @@ tick_after n o k = go o.bound
     go (Some b) = tick_tick n o.steps (k b)
 
 -- what follows an outcome that was found in code
-pub goes_on : (t : Bool) (n : ℕ) (o : Outcome) (a : Match) (k : Bindings → Outcome) → ended t a ≡ tick n o → tick n (after o k) ≡ after (ended t a) k
-goes_on t n o a k h = tick_after n o k ∙ ap (λ (x : Outcome). after x k) (sym h)
+pub goes_on : (n : ℕ) (o found : Outcome) (k : Bindings → Outcome) → found ≡ tick n o → tick n (after o k) ≡ after found k
+goes_on n o found k h = tick_after n o k ∙ ap (λ (x : Outcome). after x k) (sym h)
 
 pub bind_after : (m : Forest) (b : Bindings) (o : Option ℕ) (x p : ℕ) (k : Bindings → Outcome) → bind m b o x p k ≡ after (bind m b o x p settled) k
 bind_after m b None x p k = λ i. record { bound = (k (set b x (Some p))).bound; steps = sym (zero-add (k (set b x (Some p))).steps) i }
@@ -35,20 +31,6 @@ bind_after m b (Some q) x p k = go (same (subtree m q) (subtree m p))
     go : (t : Bool) → tick (compared (subtree m q) (subtree m p)) (cond t (k b) fails) ≡ after (tick (compared (subtree m q) (subtree m p)) (cond t (settled b) fails)) k
     go true = λ i. tick (sym (add-zero (compared (subtree m q) (subtree m p))) i) (k b)
     go false = refl
-
-module _ (m : Forest) (b : Bindings) (x p n : ℕ) where
-  pub fresh_ended : get_or b x None ≡ None → ended true (record { places = set b x (Some p); steps = n }) ≡ tick n (bind m b (get_or b x None) x p settled)
-  fresh_ended h = sym (tick_settled n (set b x (Some p))) ∙ sym (ap (λ (o : Option ℕ). tick n (bind m b o x p settled)) h)
-
-  pub again_ended : (q k : ℕ) (t : Bool) → get_or b x None ≡ Some q → t ≡ same (subtree m q) (subtree m p) → k ≡ compared (subtree m q) (subtree m p) → ended t (record { places = b; steps = n + k }) ≡ tick n (bind m b (get_or b x None) x p settled)
-  again_ended q k t h i j = go t ∙ (λ r. tick n (tick (j r) (cond (i r) (settled b) fails))) ∙ sym (ap (λ (o : Option ℕ). tick n (bind m b o x p settled)) h)
-    where
-      go : (t : Bool) → ended t (record { places = b; steps = n + k }) ≡ tick n (tick k (cond t (settled b) fails))
-      go true = sym (tick_tick n k (settled b) ∙ tick_settled (n + k) b)
-      go false = sym (tick_tick n k fails ∙ tick_fails (n + k) b)
-
-  pub inside_set : BoundInside m b → p < length m → BoundInside m (set b x (Some p))
-  inside_set h i y q e = ⊎_elim (λ z. omega (arith, z.1)) (λ z. h y q z) (set_some b x p y q e)
 
 pub few_pairs : (m : Forest) (q p : ℕ) → compared (subtree m q) (subtree m p) ≤ size_at m p
 few_pairs m q p = omega (arith, compared_most (subtree m q) (subtree m p), subtree_most m p)

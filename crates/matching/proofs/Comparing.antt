@@ -1,12 +1,16 @@
 -- Two subtrees, compared pair by pair.
-use Rattle.std.proofs.Common.{◌≡◌, ℕ, ◌+◌, ◌<◌, Bool, true, false, ◌&&◌, eqb, [], ◌∷◌, length, get_or, sym, ap, ◌∙◌, ⊎_elim, add-zero, arith}
+use Rattle.std.proofs.Common.{◌≡◌, ℕ, ◌+◌, ◌<◌, Bool, true, false, ◌&&◌, not, eqb, [], ◌∷◌, length, get_or, sym, refl, ap, ◌∙◌, ⊎_elim, add-zero, arith}
 use Rattle.std.proofs.lemmas.Bool.{and_parts, eqb-true, cases_lt, cond-true, cond-false}
 use Rattle.trees.specs.Forest.{Forest, no_node, size_at, label_at, subtree, same_node, same, compared}
 use Rattle.trees.specs.Windows.{win, win_none, win_cons, subtree_win, Sound, fits_whole}
 
 -- the test of two nodes by what is known of them
-pub nodes_tested : (m : Forest) (q p : ℕ) (k l x y : ℕ) (t : Bool) → k ≡ label_at m q → x ≡ size_at m q → l ≡ label_at m p → y ≡ size_at m p → t ≡ eqb k l && eqb x y → same_node (get_or m q no_node) (get_or m p no_node) ≡ t
-nodes_tested m q p k l x y t a b c d e = (λ i. eqb (sym a i) (sym c i) && eqb (sym b i) (sym d i)) ∙ sym e
+pub nodes_tested : (m : Forest) (q p : ℕ) (k l x y : ℕ) (t : Bool) → k ≡ label_at m q → x ≡ size_at m q → l ≡ label_at m p → y ≡ size_at m p → t ≡ not (eqb k l && eqb x y) → same_node (get_or m q no_node) (get_or m p no_node) ≡ not t
+nodes_tested m q p k l x y t a b c d e = (λ i. eqb (sym a i) (sym c i) && eqb (sym b i) (sym d i)) ∙ twice (eqb k l && eqb x y) ∙ ap not (sym e)
+  where
+    twice : (t : Bool) → t ≡ not (not t)
+    twice true = refl
+    twice false = refl
 
 -- what is left of two subtrees behind the first n pairs
 abbrev pub rest : Forest → ℕ → ℕ → Forest

@@ -5,7 +5,7 @@ use Rattle.patterns.specs.declared.row.Element.{Element}
 use Rattle.trees.specs.Forest.{Node, Forest, size_at, subtree, same, compared, no_node}
 use Rattle.matching.specs.declared.rule.Rule.{Rule}
 use Rattle.matching.specs.declared.rule.Rule.TheVariants.{Done, Stuck, BothGo, BindBeforeLexeme, BindBeforeInner, BindLast, Enter, Open}
-use Rattle.matching.specs.Rules.{Bindings, Outcome, choose, choose_none, by_rule, bind, after, after_bound, tick, fails, variable, group, walk}
+use Rattle.matching.specs.Rules.{Bindings, Outcome, choose, choose_none, by_rule, bind, after, after_bound, tick, fails, walk}
 use Rattle.trees.specs.Windows.{win, subtree_win, Sound, Fits, fits_later, fits_inner, fits_at, fits_whole, sound}
 use Rattle.matching.specs.Laws.{moved, moved_bound, shifted, SubtreeAlone}
 use Rattle.matching.proofs.Fuel.{walk_fuel}
@@ -93,22 +93,22 @@ module _ (m n : Forest) (s : Sound m) (lo to hi : ℕ) (top : hi ≤ length m) (
     rule_agree h Done = refl
     rule_agree h Stuck = refl
     rule_agree h BothGo = ap (tick 1) (less (drop 1 es) (p + 1) e (q + 1) f b (omega arith) j (omega arith) y (fits_later g (p + 1) (omega arith)) (goods_drop 1 es l) w)
-    rule_agree h BindBeforeLexeme = ap (tick 1) (bind_moved b (variable es) p q (walk c m (drop 2 es) (p + size_at m p + 1) e) (walk c n (drop 2 es) (q + size_at m p + 1) f) w i (omega arith) (omega (arith, g.ends p (omega arith) h)) z
+    rule_agree h (BindBeforeLexeme x) = ap (tick 1) (bind_moved b x p q (walk c m (drop 2 es) (p + size_at m p + 1) e) (walk c n (drop 2 es) (q + size_at m p + 1) f) w i (omega arith) (omega (arith, g.ends p (omega arith) h)) z
         (λ d v. less (drop 2 es) (p + size_at m p + 1) e (q + size_at m p + 1) f d (omega arith) j (omega arith) y (fits_later g (p + size_at m p + 1) (omega arith)) (goods_drop 2 es l) v))
-    rule_agree h BindBeforeInner = ap (tick 1) (bind_moved b (variable es) p q (walk c m (drop 1 es) (p + size_at m p) e) (walk c n (drop 1 es) (q + size_at m p) f) w i (omega arith) (omega (arith, g.ends p (omega arith) h)) z
+    rule_agree h (BindBeforeInner x) = ap (tick 1) (bind_moved b x p q (walk c m (drop 1 es) (p + size_at m p) e) (walk c n (drop 1 es) (q + size_at m p) f) w i (omega arith) (omega (arith, g.ends p (omega arith) h)) z
         (λ d v. less (drop 1 es) (p + size_at m p) e (q + size_at m p) f d (omega arith) j (omega arith) y (fits_later g (p + size_at m p) (omega arith)) (goods_drop 1 es l) v))
-    rule_agree h BindLast = ap (tick 1) (bind_moved b (variable es) p q (walk c m (drop 1 es) (p + size_at m p) e) (walk c n (drop 1 es) (q + size_at m p) f) w i (omega arith) (omega (arith, g.ends p (omega arith) h)) z
+    rule_agree h (BindLast x) = ap (tick 1) (bind_moved b x p q (walk c m (drop 1 es) (p + size_at m p) e) (walk c n (drop 1 es) (q + size_at m p) f) w i (omega arith) (omega (arith, g.ends p (omega arith) h)) z
         (λ d v. less (drop 1 es) (p + size_at m p) e (q + size_at m p) f d (omega arith) j (omega arith) y (fits_later g (p + size_at m p) (omega arith)) (goods_drop 1 es l) v))
-    rule_agree h Enter =
+    rule_agree h (Enter size) =
         let fi : Fits m (p + 1) (p + size_at m p) = fits_inner s p (omega (arith, g.within)) in
-        let gi : Goods (take (group es - 1) (drop 1 es)) = goods_take (group es - 1) (drop 1 es) (goods_drop 1 es l) in
+        let gi : Goods (take (size - 1) (drop 1 es)) = goods_take (size - 1) (drop 1 es) (goods_drop 1 es l) in
         let k : p + size_at m p ≤ hi = omega (arith, g.ends p (omega arith) h) in
-        let inner : walk c n (take (group es - 1) (drop 1 es)) (q + 1) (q + size_at m p) (move lo to b) ≡ shifted lo to (walk c m (take (group es - 1) (drop 1 es)) (p + 1) (p + size_at m p) b) = less (take (group es - 1) (drop 1 es)) (p + 1) (p + size_at m p) (q + 1) (q + size_at m p) b (omega arith) k (omega arith) (omega arith) fi gi w in
+        let inner : walk c n (take (size - 1) (drop 1 es)) (q + 1) (q + size_at m p) (move lo to b) ≡ shifted lo to (walk c m (take (size - 1) (drop 1 es)) (p + 1) (p + size_at m p) b) = less (take (size - 1) (drop 1 es)) (p + 1) (p + size_at m p) (q + 1) (q + size_at m p) b (omega arith) k (omega arith) (omega arith) fi gi w in
         ap (tick 1) (
-        ap (λ (o : Outcome). after o (walk c n (drop (group es) es) (q + size_at m p) f)) inner
-        ∙ after_agree (walk c m (take (group es - 1) (drop 1 es)) (p + 1) (p + size_at m p) b) (walk c m (drop (group es) es) (p + size_at m p) e) (walk c n (drop (group es) es) (q + size_at m p) f)
-        (λ d v. less (drop (group es) es) (p + size_at m p) e (q + size_at m p) f d (omega arith) j (omega arith) y (fits_later g (p + size_at m p) (omega arith)) (goods_drop (group es) es l)
-        (won_within m s lo hi (won m s c (take (group es - 1) (drop 1 es)) (p + 1) (p + size_at m p) b d fi gi v) fi (omega arith) k w)))
+        ap (λ (o : Outcome). after o (walk c n (drop size es) (q + size_at m p) f)) inner
+        ∙ after_agree (walk c m (take (size - 1) (drop 1 es)) (p + 1) (p + size_at m p) b) (walk c m (drop size es) (p + size_at m p) e) (walk c n (drop size es) (q + size_at m p) f)
+        (λ d v. less (drop size es) (p + size_at m p) e (q + size_at m p) f d (omega arith) j (omega arith) y (fits_later g (p + size_at m p) (omega arith)) (goods_drop size es l)
+        (won_within m s lo hi (won m s c (take (size - 1) (drop 1 es)) (p + 1) (p + size_at m p) b d fi gi v) fi (omega arith) k w)))
     rule_agree h Open = ap (tick 1) (less es (p + 1) e (q + 1) f b (omega arith) j (omega arith) y (fits_later g (p + 1) (omega arith)) l w)
 
     none_agree : (xs : List Element) → by_rule (walk c n) n es q (size_at n q) f (move lo to b) (choose_none xs) ≡ shifted lo to (by_rule (walk c m) m es p (size_at m p) e b (choose_none xs))

@@ -5,7 +5,7 @@ use Rattle.patterns.specs.declared.row.Element.{Element}
 use Rattle.trees.specs.Forest.{Forest, size_at}
 use Rattle.matching.specs.declared.rule.Rule.{Rule}
 use Rattle.matching.specs.declared.rule.Rule.TheVariants.{Done, Stuck, BothGo, BindBeforeLexeme, BindBeforeInner, BindLast, Enter, Open}
-use Rattle.matching.specs.Rules.{Bindings, Walk, choose, choose_none, by_rule, bind, after, tick, variable, group, walk, walks, match_at_lem}
+use Rattle.matching.specs.Rules.{Bindings, Walk, choose, choose_none, by_rule, bind, after, tick, walk, walks, match_at_lem}
 use Rattle.trees.specs.Windows.{win, Sound, Fits, fits_later, fits_inner, fits_at, fits_whole}
 use Rattle.matching.proofs.Winning.{choose_nothing}
 
@@ -16,23 +16,23 @@ module _ (m : Forest) (s : Sound m) (a b : Walk) (es : List Element) (p e : ℕ)
   rule_alike h Done = refl
   rule_alike h Stuck = refl
   rule_alike h BothGo = ap (tick 1) (less (drop 1 es) (p + 1) e c (fits_later f (p + 1) (omega arith)) (omega arith))
-  rule_alike h BindBeforeLexeme =
+  rule_alike h (BindBeforeLexeme x) =
       let k : 0 < size_at m p = s.sizes p (omega (arith, f.within)) in
       let z : (d : Bindings) → a (drop 2 es) (p + size_at m p + 1) e d ≡ b (drop 2 es) (p + size_at m p + 1) e d = λ d. less (drop 2 es) (p + size_at m p + 1) e d (fits_later f (p + size_at m p + 1) (omega arith)) (omega arith) in
-      λ i. tick 1 (bind m c (get_or c (variable es) None) (variable es) p (λ d. z d i))
-  rule_alike h BindBeforeInner =
+      λ i. tick 1 (bind m c (get_or c x None) x p (λ d. z d i))
+  rule_alike h (BindBeforeInner x) =
       let k : 0 < size_at m p = s.sizes p (omega (arith, f.within)) in
       let z : (d : Bindings) → a (drop 1 es) (p + size_at m p) e d ≡ b (drop 1 es) (p + size_at m p) e d = λ d. less (drop 1 es) (p + size_at m p) e d (fits_later f (p + size_at m p) (omega arith)) (omega arith) in
-      λ i. tick 1 (bind m c (get_or c (variable es) None) (variable es) p (λ d. z d i))
-  rule_alike h BindLast =
+      λ i. tick 1 (bind m c (get_or c x None) x p (λ d. z d i))
+  rule_alike h (BindLast x) =
       let k : 0 < size_at m p = s.sizes p (omega (arith, f.within)) in
       let z : (d : Bindings) → a (drop 1 es) (p + size_at m p) e d ≡ b (drop 1 es) (p + size_at m p) e d = λ d. less (drop 1 es) (p + size_at m p) e d (fits_later f (p + size_at m p) (omega arith)) (omega arith) in
-      λ i. tick 1 (bind m c (get_or c (variable es) None) (variable es) p (λ d. z d i))
-  rule_alike h Enter =
+      λ i. tick 1 (bind m c (get_or c x None) x p (λ d. z d i))
+  rule_alike h (Enter size) =
       let k : 0 < size_at m p = s.sizes p (omega (arith, f.within)) in
       let in_e : p + size_at m p ≤ e = f.ends p (omega arith) h in
-      let y : a (take (group es - 1) (drop 1 es)) (p + 1) (p + size_at m p) c ≡ b (take (group es - 1) (drop 1 es)) (p + 1) (p + size_at m p) c = less (take (group es - 1) (drop 1 es)) (p + 1) (p + size_at m p) c (fits_inner s p (omega (arith, f.within))) (omega arith) in
-      let z : (d : Bindings) → a (drop (group es) es) (p + size_at m p) e d ≡ b (drop (group es) es) (p + size_at m p) e d = λ d. less (drop (group es) es) (p + size_at m p) e d (fits_later f (p + size_at m p) (omega arith)) (omega arith) in
+      let y : a (take (size - 1) (drop 1 es)) (p + 1) (p + size_at m p) c ≡ b (take (size - 1) (drop 1 es)) (p + 1) (p + size_at m p) c = less (take (size - 1) (drop 1 es)) (p + 1) (p + size_at m p) c (fits_inner s p (omega (arith, f.within))) (omega arith) in
+      let z : (d : Bindings) → a (drop size es) (p + size_at m p) e d ≡ b (drop size es) (p + size_at m p) e d = λ d. less (drop size es) (p + size_at m p) e d (fits_later f (p + size_at m p) (omega arith)) (omega arith) in
       λ i. tick 1 (after (y i) (λ d. z d i))
   rule_alike h Open = ap (tick 1) (less es (p + 1) e c (fits_later f (p + 1) (omega arith)) (omega arith))
 

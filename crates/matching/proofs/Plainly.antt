@@ -4,8 +4,8 @@ use Rattle.std.proofs.lemmas.Bool.{cases_lt, cond-true, cond-false, lt-ltb, le-l
 use Rattle.patterns.specs.declared.row.Element.{Element}
 use Rattle.patterns.specs.declared.row.Element.TheVariants.{Lexeme, Variable, Group}
 use Rattle.trees.specs.Forest.{Node, Forest, size_at, subtree, same, no_node}
-use Rattle.matching.specs.declared.rule.Next.{Next}
-use Rattle.matching.specs.declared.rule.Next.TheVariants.{Leaf, Inner}
+use Rattle.matching.specs.declared.nodes.Seen.{Seen}
+use Rattle.matching.specs.declared.nodes.Seen.TheVariants.{Leaf, Inner}
 use Rattle.matching.specs.declared.rule.Rule.{Rule}
 use Rattle.matching.specs.declared.rule.Rule.TheVariants.{Stuck, BothGo, BindBeforeLexeme, Enter, Open}
 use Rattle.matching.specs.Rules.{next, fits, Bindings, Outcome, Walk, choose, choose_last, by_rule, bind, after, after_bound, fails, walk}
@@ -45,19 +45,19 @@ after_wins m σ o k h w = subst (λ (r : Option Bindings). Wins m σ (after_boun
 module _ (m : Forest) (s : Sound m) (σ : Substitution) (n : ℕ) (go : Walk)
     (wins : (es : List Element) (p e : ℕ) (b : Bindings) (v : Forest) (r : Reads σ es v) → Plain r → win m p e ≡ v → Fits m p e → Goods es → e - p < n → Suits m σ b → Wins m σ (go es p e b))
     (p e : ℕ) (b : Bindings) (f : Fits m p e) (u : e - p < suc n) (h : Suits m σ b) where
-  last_wins : (k : p < e) (big : 1 < size_at m p) (x : ℕ) (o : Option ℕ) → subtree m p ≡ σ x → {es : List Element} {v : Forest} (r : Reads σ es v) → Plain r → win m (p + size_at m p) e ≡ v → Goods (Variable x o ∷ es) → Wins m σ (by_rule go m (Variable x o ∷ es) p (size_at m p) e b (choose_last es (next v)))
+  last_wins : (k : p < e) (big : 1 < size_at m p) (x : ℕ) (o : Option ℕ) → subtree m p ≡ σ x → {es : List Element} {v : Forest} (r : Reads σ es v) → Plain r → win m (p + size_at m p) e ≡ v → Goods (Variable x o ∷ es) → Wins m σ (by_rule go m (Variable x o ∷ es) p (size_at m p) e b (choose_last x es (next v)))
   last_wins k big x o t nothing_left pl z g =
       bind_wins m σ b (get_or b x None) x p (go [] (p + size_at m p) e) refl h t (λ d i. wins [] (p + size_at m p) e d [] nothing_left tt z (fits_later f (p + size_at m p) (omega arith)) tt (omega arith) i)
   last_wins k big x o t (lexeme {l = l} {a = n} {es = es} {f = v} i j r) pl z g =
       let (q, a, y) = win_head m (p + size_at m p) e n v f.within z in
-      let c : choose_last (Lexeme l ∷ es) (next (n ∷ v)) ≡ BindBeforeLexeme = ap (choose_last (Lexeme l ∷ es)) (cond-false (ltb 1 n.size) Inner (Leaf n.label) (le-ltb 1 n.size (omega arith))) ∙ cond-true (eqb l n.label) BindBeforeLexeme Open (eq-eqb l n.label (sym j)) in
+      let c : choose_last x (Lexeme l ∷ es) (next (n ∷ v)) ≡ BindBeforeLexeme x = ap (λ (i : Seen). choose_last x (Lexeme l ∷ es) (Some i)) (cond-false (ltb 1 n.size) Inner (Leaf n.label) (le-ltb 1 n.size (omega arith))) ∙ cond-true (eqb l n.label) (BindBeforeLexeme x) Open (eq-eqb l n.label (sym j)) in
       subst (λ (j : Rule). Wins m σ (by_rule go m (Variable x o ∷ (Lexeme l ∷ es)) p (size_at m p) e b j)) (sym c)
       (bind_wins m σ b (get_or b x None) x p (go es (p + size_at m p + 1) e) refl h t (λ d i. wins es (p + size_at m p + 1) e d v r pl y (fits_later f (p + size_at m p + 1) (omega arith)) g.1.1 (omega arith) i))
   last_wins k big x o t (variable {x = a} {c = c} {a = n} {es = es} {f = v} j q y r) pl z g =
-      subst (λ (i : Next). Wins m σ (by_rule go m (Variable x o ∷ (Variable a c ∷ es)) p (size_at m p) e b (choose_last (Variable a c ∷ es) i))) (sym (cond-true (ltb 1 n.size) Inner (Leaf n.label) (lt-ltb 1 n.size j)))
+      subst (λ (i : Seen). Wins m σ (by_rule go m (Variable x o ∷ (Variable a c ∷ es)) p (size_at m p) e b (choose_last x (Variable a c ∷ es) (Some i)))) (sym (cond-true (ltb 1 n.size) Inner (Leaf n.label) (lt-ltb 1 n.size j)))
       (bind_wins m σ b (get_or b x None) x p (go (Variable a c ∷ es) (p + size_at m p) e) refl h t (λ d i. wins (Variable a c ∷ es) (p + size_at m p) e d (n ∷ v) (variable j q y r) pl z (fits_later f (p + size_at m p) (omega arith)) g.1 (omega arith) i))
   last_wins k big x o t (group {k = a} {a = n} {es = es} {f = v} j q r) pl z g =
-      subst (λ (i : Next). Wins m σ (by_rule go m (Variable x o ∷ (Group a ∷ es)) p (size_at m p) e b (choose_last (Group a ∷ es) i))) (sym (cond-true (ltb 1 n.size) Inner (Leaf n.label) (lt-ltb 1 n.size j)))
+      subst (λ (i : Seen). Wins m σ (by_rule go m (Variable x o ∷ (Group a ∷ es)) p (size_at m p) e b (choose_last x (Group a ∷ es) (Some i)))) (sym (cond-true (ltb 1 n.size) Inner (Leaf n.label) (lt-ltb 1 n.size j)))
       (bind_wins m σ b (get_or b x None) x p (go (Group a ∷ es) (p + size_at m p) e) refl h t (λ d i. wins (Group a ∷ es) (p + size_at m p) e d (n ∷ v) (group j q r) pl z (fits_later f (p + size_at m p) (omega arith)) g.1 (omega arith) i))
   last_wins k big x o t (opening j r) pl z g = absurd pl
 
@@ -73,7 +73,7 @@ module _ (m : Forest) (s : Sound m) (σ : Substitution) (n : ℕ) (go : Walk)
       let c : size_at m p ≡ w = ap (λ (i : Node). i.size) a in
       let t : subtree m p ≡ σ x = subtree_cons m s p e f k ∙ (λ i. a i ∷ take (c i - 1) (d i)) ∙ sym y in
       let rest : win m (p + size_at m p) e ≡ drop (w - 1) v = sym (rest_win m s p e f k) ∙ (λ i. drop (c i - 1) (d i)) in
-      subst (λ (i : Rule). Wins m σ (by_rule go m (Variable x o ∷ es) p (size_at m p) e b i)) (sym (cond-true (ltb 1 w) _ _ (lt-ltb 1 w j) ∙ cond-true (fits o n.label) (choose_last es (next (drop (w - 1) v))) Open (t_true (fits o n.label) q)))
+      subst (λ (i : Rule). Wins m σ (by_rule go m (Variable x o ∷ es) p (size_at m p) e b i)) (sym (cond-true (ltb 1 w) _ _ (lt-ltb 1 w j) ∙ cond-true (fits o n.label) (choose_last x es (next (drop (w - 1) v))) Open (t_true (fits o n.label) q)))
       (last_wins k (omega arith) x o t r pl rest g)
   some_wins (group {k = a} {a = n} {es = es} {f = v} j q r) pl z g =
       let (k, y, d) = win_head m p e n v f.within z in
@@ -82,7 +82,7 @@ module _ (m : Forest) (s : Sound m) (σ : Substitution) (n : ℕ) (go : Walk)
       let rest : win m (p + size_at m p) e ≡ drop (w - 1) v = sym (rest_win m s p e f k) ∙ (λ i. drop (c i - 1) (d i)) in
       let first : win m (p + 1) (p + size_at m p) ≡ take (w - 1) v = sym (first_win m p e f k) ∙ (λ i. take (c i - 1) (d i)) in
       let in_e : p + size_at m p ≤ e = f.ends p (omega arith) k in
-      subst (λ (i : Rule). Wins m σ (by_rule go m (Group a ∷ es) p (size_at m p) e b i)) (sym (cond-true (ltb 1 w) Enter _ (lt-ltb 1 w j)))
+      subst (λ (i : Rule). Wins m σ (by_rule go m (Group a ∷ es) p (size_at m p) e b i)) (sym (cond-true (ltb 1 w) (Enter a) _ (lt-ltb 1 w j)))
       (after_wins m σ (go (take (a - 1) es) (p + 1) (p + size_at m p) b) (go (drop a (Group a ∷ es)) (p + size_at m p) e)
       (wins (take (a - 1) es) (p + 1) (p + size_at m p) b (take (w - 1) v) q pl.0 first (fits_inner s p (omega (arith, f.within))) (goods_take (a - 1) es g.1) (omega arith) h)
       (λ i y. subst (λ (x : List Element). Wins m σ (go x (p + size_at m p) e i)) (sym (drop_group a (Group a) es g.0))

@@ -5,7 +5,7 @@ use Rattle.patterns.specs.declared.row.Element.{Element}
 use Rattle.trees.specs.Forest.{Forest, size_at, subtree, compared, same, same_node}
 use Rattle.matching.specs.declared.rule.Rule.{Rule}
 use Rattle.matching.specs.declared.rule.Rule.TheVariants.{Done, Stuck, BothGo, BindBeforeLexeme, BindBeforeInner, BindLast, Enter, Open}
-use Rattle.matching.specs.Rules.{Bindings, Outcome, Walk, choose, choose_none, by_rule, bind, after, after_bound, fails, variable, group, walk, match_at_lem}
+use Rattle.matching.specs.Rules.{Bindings, Outcome, Walk, choose, choose_none, by_rule, bind, after, after_bound, fails, walk, match_at_lem}
 use Rattle.matching.specs.Laws.{TwoStepsANode}
 use Rattle.trees.specs.Windows.{win, win_none, Sound, sound, Fits, fits_later, fits_inner, fits_at}
 
@@ -35,31 +35,31 @@ module _ (m : Forest) (s : Sound m) (go : Walk) (less : (es : List Element) (p e
   rule_steps es p e b f h Done = omega arith
   rule_steps es p e b f h Stuck = omega arith
   rule_steps es p e b f h BothGo = omega (arith, less (drop 1 es) (p + 1) e b (fits_later f (p + 1) (omega arith)))
-  rule_steps es p e b f h BindBeforeLexeme = omega (
+  rule_steps es p e b f h (BindBeforeLexeme x) = omega (
     arith,
     f.ends p (omega arith) h,
     s.sizes p (omega (arith, f.within)),
-    bind_steps m b (get_or b (variable es) None) (variable es) p (go (drop 2 es) (p + size_at m p + 1) e) (2 * (e - (p + size_at m p + 1))) (λ c. less (drop 2 es) (p + size_at m p + 1) e c (fits_later f (p + size_at m p + 1) (omega arith))),
+    bind_steps m b (get_or b x None) x p (go (drop 2 es) (p + size_at m p + 1) e) (2 * (e - (p + size_at m p + 1))) (λ c. less (drop 2 es) (p + size_at m p + 1) e c (fits_later f (p + size_at m p + 1) (omega arith))),
   )
-  rule_steps es p e b f h BindBeforeInner = omega (
+  rule_steps es p e b f h (BindBeforeInner x) = omega (
     arith,
     f.ends p (omega arith) h,
     s.sizes p (omega (arith, f.within)),
-    bind_steps m b (get_or b (variable es) None) (variable es) p (go (drop 1 es) (p + size_at m p) e) (2 * (e - (p + size_at m p))) (λ c. less (drop 1 es) (p + size_at m p) e c (fits_later f (p + size_at m p) (omega arith))),
+    bind_steps m b (get_or b x None) x p (go (drop 1 es) (p + size_at m p) e) (2 * (e - (p + size_at m p))) (λ c. less (drop 1 es) (p + size_at m p) e c (fits_later f (p + size_at m p) (omega arith))),
   )
-  rule_steps es p e b f h BindLast = omega (
+  rule_steps es p e b f h (BindLast x) = omega (
     arith,
     f.ends p (omega arith) h,
     s.sizes p (omega (arith, f.within)),
-    bind_steps m b (get_or b (variable es) None) (variable es) p (go (drop 1 es) (p + size_at m p) e) (2 * (e - (p + size_at m p))) (λ c. less (drop 1 es) (p + size_at m p) e c (fits_later f (p + size_at m p) (omega arith))),
+    bind_steps m b (get_or b x None) x p (go (drop 1 es) (p + size_at m p) e) (2 * (e - (p + size_at m p))) (λ c. less (drop 1 es) (p + size_at m p) e c (fits_later f (p + size_at m p) (omega arith))),
   )
-  rule_steps es p e b f h Enter = omega (
+  rule_steps es p e b f h (Enter size) = omega (
     arith,
     f.ends p (omega arith) h,
     s.sizes p (omega (arith, f.within)),
-    after_steps (go (take (group es - 1) (drop 1 es)) (p + 1) (p + size_at m p) b) (go (drop (group es) es) (p + size_at m p) e) (2 * ((p + size_at m p) - (p + 1))) (2 * (e - (p + size_at m p)))
-        (less (take (group es - 1) (drop 1 es)) (p + 1) (p + size_at m p) b (fits_inner s p (omega (arith, f.within))))
-        (λ c. less (drop (group es) es) (p + size_at m p) e c (fits_later f (p + size_at m p) (omega arith))),
+    after_steps (go (take (size - 1) (drop 1 es)) (p + 1) (p + size_at m p) b) (go (drop size es) (p + size_at m p) e) (2 * ((p + size_at m p) - (p + 1))) (2 * (e - (p + size_at m p)))
+        (less (take (size - 1) (drop 1 es)) (p + 1) (p + size_at m p) b (fits_inner s p (omega (arith, f.within))))
+        (λ c. less (drop size es) (p + size_at m p) e c (fits_later f (p + size_at m p) (omega arith))),
   )
   rule_steps es p e b f h Open = omega (arith, less es (p + 1) e b (fits_later f (p + 1) (omega arith)))
 

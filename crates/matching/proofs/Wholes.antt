@@ -1,9 +1,8 @@
 -- Parts of a level are levels.
-use Rattle.std.proofs.Common.{◌≡◌, ℕ, ◌+◌, ◌-◌, ◌<◌, ◌≤◌, List, [], ◌∷◌, length, take, drop, sym, refl, ap, ◌∙◌, subst, arith, length-drop, length-take-le, get_or-drop, get_or-take}
+use Rattle.std.proofs.Common.{◌≡◌, ℕ, ◌+◌, ◌-◌, ◌<◌, ◌≤◌, List, length, take, drop, sym, ap, ◌∙◌, subst, arith, length-drop, length-take-le, get_or-drop, get_or-take}
 use Rattle.patterns.specs.declared.row.Element.{Element}
-use Rattle.patterns.specs.declared.row.Element.TheVariants.{Lexeme, Variable, Group}
+use Rattle.patterns.specs.declared.row.Element.TheVariants.{Lexeme, Group}
 use Rattle.patterns.specs.Elements.{extent, least_extent, number_of, element_at, ends, WellFormed}
-use Rattle.matching.specs.Rules.{variable, group}
 use Rattle.matching.specs.Levels.{Level}
 
 pub level_formed : (es : List Element) → WellFormed es → Level es
@@ -30,25 +29,20 @@ level_drop n es h l =
     moved es (drop n es) n (λ i k. get_or-drop n es i (Lexeme 0)) (omega arith) (λ i k. omega (arith, (l (n + i) (omega arith)).inside)) l
 
 -- the group that a level begins with
-pub group_inside : (es : List Element) → Level es → 1 ≤ length es → element_at es 0 ≡ Group (group es) → (2 ≤ group es) × (group es ≤ length es)
-group_inside es l h e = let w = l 0 (omega arith) in let x = ap extent e in let y = ap least_extent e in (omega (arith, x, y, w.sized), omega (arith, x, w.inside))
+pub group_inside : (es : List Element) (k : ℕ) → Level es → 1 ≤ length es → element_at es 0 ≡ Group k → (2 ≤ k) × (k ≤ length es)
+group_inside es k l h e = let w = l 0 (omega arith) in let x = ap extent e in let y = ap least_extent e in (omega (arith, x, y, w.sized), omega (arith, x, w.inside))
 
-pub level_group : (es : List Element) → Level es → 1 ≤ length es → element_at es 0 ≡ Group (group es) → Level (take (group es - 1) (drop 1 es))
-level_group es l h e =
-    let (two, all) = group_inside es l h e in
-    let x : extent (element_at es 0) ≡ group es = ap extent e in
-    let n : length (take (group es - 1) (drop 1 es)) ≡ group es - 1 = length-take-le (group es - 1) (drop 1 es) (simp length-drop (omega arith)) in
-    moved es (take (group es - 1) (drop 1 es)) 1
-    (λ i k. get_or-take (group es - 1) (drop 1 es) i (Lexeme 0) (omega arith) ∙ get_or-drop 1 es i (Lexeme 0))
+pub level_group : (es : List Element) (k : ℕ) → Level es → 1 ≤ length es → element_at es 0 ≡ Group k → Level (take (k - 1) (drop 1 es))
+level_group es k l h e =
+    let (two, all) = group_inside es k l h e in
+    let x : extent (element_at es 0) ≡ k = ap extent e in
+    let n : length (take (k - 1) (drop 1 es)) ≡ k - 1 = length-take-le (k - 1) (drop 1 es) (simp length-drop (omega arith)) in
+    moved es (take (k - 1) (drop 1 es)) 1
+    (λ i j. get_or-take (k - 1) (drop 1 es) i (Lexeme 0) (omega arith) ∙ get_or-drop 1 es i (Lexeme 0))
     (omega arith)
-    (λ i k. omega (arith, x, (l (1 + i) (omega arith)).nested 0 (omega arith) (omega (arith, x, n, k))))
+    (λ i j. omega (arith, x, (l (1 + i) (omega arith)).nested 0 (omega arith) (omega (arith, x, n, j))))
     l
 
-first_number : (es : List Element) → 1 ≤ length es → variable es ≡ number_of (element_at es 0)
-first_number [] h = absurd (omega arith)
-first_number (Lexeme l ∷ es) h = refl
-first_number (Variable x c ∷ es) h = refl
-first_number (Group k ∷ es) h = refl
-
-pub variable_small : (es : List Element) → Level es → 1 ≤ length es → variable es < 16
-variable_small es l h = omega (arith, first_number es h, (l 0 (omega arith)).numbered)
+-- the variable that a level begins with
+pub variable_small : (es : List Element) (x : ℕ) → Level es → 1 ≤ length es → number_of (element_at es 0) ≡ x → x < 16
+variable_small es x l h e = omega (arith, e, (l 0 (omega arith)).numbered)

@@ -6,8 +6,8 @@ use Rattle.patterns.specs.declared.row.Element.{Element}
 use Rattle.patterns.specs.declared.row.Element.TheVariants.{Lexeme, Variable, Group}
 use Rattle.trees.specs.Forest.{Forest, size_at, subtree, same, no_node}
 use Rattle.patterns.specs.Elements.{number_of, extent, least_extent, WellFormed}
-use Rattle.matching.specs.declared.rule.Next.{Next}
-use Rattle.matching.specs.declared.rule.Next.TheVariants.{Nothing, Leaf, Inner}
+use Rattle.matching.specs.declared.nodes.Seen.{Seen}
+use Rattle.matching.specs.declared.nodes.Seen.TheVariants.{Leaf, Inner}
 use Rattle.matching.specs.declared.rule.Rule.{Rule}
 use Rattle.matching.specs.declared.rule.Rule.TheVariants.{Stuck, BothGo, BindBeforeLexeme, Enter, Open}
 use Rattle.matching.specs.Rules.{next, fits, Bindings, Outcome, Walk, choose, choose_none, choose_leaf, choose_inner, choose_last, by_rule, bind, after, after_bound, fails, walk}
@@ -106,11 +106,11 @@ module _ (m : Forest) (s : Sound m) where
   one_there : (q : ℕ) → q < length m → size_at m q ≤ 1 → size_at m q ≡ 1
   one_there q h k = omega (arith, s.sizes q h)
 
-  leaf_there : (q e l : ℕ) → Fits m q e → next (win m q e) ≡ Leaf l → (q < e) × ((size_at m q ≡ 1) × ((get_or m q no_node).label ≡ l))
-  leaf_there q e l f h = ⊎_elim (λ k. (k, size k (ltb 1 (size_at m q)) refl (subst (λ (w : Forest). next w ≡ Leaf l) (win_cons m q e k f.within) h)))
-      (λ k. let z : ◌≡◌ {A = Next} Nothing (Leaf l) = subst (λ (w : Forest). next w ≡ Leaf l) (win_none m q e k) h in let y : ◌≡◌ {A = ℕ} 0 1 = cc in absurd (omega arith)) (cases_lt q e)
+  leaf_there : (q e l : ℕ) → Fits m q e → next (win m q e) ≡ Some (Leaf l) → (q < e) × ((size_at m q ≡ 1) × ((get_or m q no_node).label ≡ l))
+  leaf_there q e l f h = ⊎_elim (λ k. (k, size k (ltb 1 (size_at m q)) refl (subst (λ (w : Forest). next w ≡ Some (Leaf l)) (win_cons m q e k f.within) h)))
+      (λ k. let z : ◌≡◌ {A = Option Seen} None (Some (Leaf l)) = subst (λ (w : Forest). next w ≡ Some (Leaf l)) (win_none m q e k) h in let y : ◌≡◌ {A = ℕ} 0 1 = cc in absurd (omega arith)) (cases_lt q e)
     where
-      size : q < e → (t : Bool) → ltb 1 (size_at m q) ≡ t → ◌≡◌ {A = Next} (cond t Inner (Leaf (get_or m q no_node).label)) (Leaf l) → (size_at m q ≡ 1) × ((get_or m q no_node).label ≡ l)
+      size : q < e → (t : Bool) → ltb 1 (size_at m q) ≡ t → ◌≡◌ {A = Option Seen} (Some (cond t Inner (Leaf (get_or m q no_node).label))) (Some (Leaf l)) → (size_at m q ≡ 1) × ((get_or m q no_node).label ≡ l)
       size k true u v = let y : ◌≡◌ {A = ℕ} 0 1 = cc in absurd (omega arith)
       size k false u v = (one_there q (omega (arith, f.within)) (omega (arith, ltb-false 1 (size_at m q) u)), cc)
 
@@ -135,35 +135,35 @@ module _ (m : Forest) (s : Sound m) where
           let (d, i, j) = bind_some m b (get_or b x None) x p (go es (p + size_at m p) e) c refl w in
           put h k t i (wins es (p + size_at m p) e d c (fits_later f (p + size_at m p) (omega arith)) g j)
 
-      won_bind_lexeme : (x : ℕ) (o : Option ℕ) → T (fits o (get_or m p no_node).label) → (l r : ℕ) (es : List Element) → Goods (Variable x o ∷ (Lexeme l ∷ es)) → next (win m (p + size_at m p) e) ≡ Leaf r → (u : Bool) → eqb l r ≡ u →
-          (by_rule go m (Variable x o ∷ (Lexeme l ∷ es)) p (size_at m p) e b (cond u BindBeforeLexeme Open)).bound ≡ Some c → Won m (Variable x o ∷ (Lexeme l ∷ es)) p e b c
+      won_bind_lexeme : (x : ℕ) (o : Option ℕ) → T (fits o (get_or m p no_node).label) → (l r : ℕ) (es : List Element) → Goods (Variable x o ∷ (Lexeme l ∷ es)) → next (win m (p + size_at m p) e) ≡ Some (Leaf r) → (u : Bool) → eqb l r ≡ u →
+          (by_rule go m (Variable x o ∷ (Lexeme l ∷ es)) p (size_at m p) e b (cond u (BindBeforeLexeme x) Open)).bound ≡ Some c → Won m (Variable x o ∷ (Lexeme l ∷ es)) p e b c
       won_bind_lexeme x o t l r es g z true y w =
           let (d, i, j) = bind_some m b (get_or b x None) x p (go es (p + size_at m p + 1) e) c refl w in
           let (q, v) = leaf_there (p + size_at m p) e r (fits_later f (p + size_at m p) (omega arith)) z in
           put h k t i (both q v.0 (v.1 ∙ sym (eqb-true l r y)) (wins es (p + size_at m p + 1) e d c (fits_later f (p + size_at m p + 1) (omega arith)) g.1.1 j))
       won_bind_lexeme x o t l r es g z false y w = won_opening (Variable x o ∷ (Lexeme l ∷ es)) g w
 
-      won_last : (x : ℕ) (o : Option ℕ) → T (fits o (get_or m p no_node).label) → (es : List Element) → Goods (Variable x o ∷ es) → (n : Next) → next (win m (p + size_at m p) e) ≡ n →
-          (by_rule go m (Variable x o ∷ es) p (size_at m p) e b (choose_last es n)).bound ≡ Some c → Won m (Variable x o ∷ es) p e b c
-      won_last x o t [] g Nothing z w = won_bind x o t [] tt w
-      won_last x o t [] g (Leaf l) z w = won_opening (Variable x o ∷ []) g w
-      won_last x o t [] g Inner z w = won_bind x o t [] tt w
-      won_last x o t (Lexeme l ∷ es) g Nothing z w = won_opening (Variable x o ∷ (Lexeme l ∷ es)) g w
-      won_last x o t (Lexeme l ∷ es) g (Leaf r) z w = won_bind_lexeme x o t l r es g z (eqb l r) refl w
-      won_last x o t (Lexeme l ∷ es) g Inner z w = won_bind x o t (Lexeme l ∷ es) g.1 w
-      won_last x o t (Variable y u ∷ es) g Nothing z w = won_opening (Variable x o ∷ (Variable y u ∷ es)) g w
-      won_last x o t (Variable y u ∷ es) g (Leaf r) z w = won_opening (Variable x o ∷ (Variable y u ∷ es)) g w
-      won_last x o t (Variable y u ∷ es) g Inner z w = won_bind x o t (Variable y u ∷ es) g.1 w
-      won_last x o t (Group n ∷ es) g Nothing z w = won_opening (Variable x o ∷ (Group n ∷ es)) g w
-      won_last x o t (Group n ∷ es) g (Leaf r) z w = won_opening (Variable x o ∷ (Group n ∷ es)) g w
-      won_last x o t (Group n ∷ es) g Inner z w = won_bind x o t (Group n ∷ es) g.1 w
+      won_last : (x : ℕ) (o : Option ℕ) → T (fits o (get_or m p no_node).label) → (es : List Element) → Goods (Variable x o ∷ es) → (n : Option Seen) → next (win m (p + size_at m p) e) ≡ n →
+          (by_rule go m (Variable x o ∷ es) p (size_at m p) e b (choose_last x es n)).bound ≡ Some c → Won m (Variable x o ∷ es) p e b c
+      won_last x o t [] g None z w = won_bind x o t [] tt w
+      won_last x o t [] g (Some (Leaf l)) z w = won_opening (Variable x o ∷ []) g w
+      won_last x o t [] g (Some Inner) z w = won_bind x o t [] tt w
+      won_last x o t (Lexeme l ∷ es) g None z w = won_opening (Variable x o ∷ (Lexeme l ∷ es)) g w
+      won_last x o t (Lexeme l ∷ es) g (Some (Leaf r)) z w = won_bind_lexeme x o t l r es g z (eqb l r) refl w
+      won_last x o t (Lexeme l ∷ es) g (Some Inner) z w = won_bind x o t (Lexeme l ∷ es) g.1 w
+      won_last x o t (Variable y u ∷ es) g None z w = won_opening (Variable x o ∷ (Variable y u ∷ es)) g w
+      won_last x o t (Variable y u ∷ es) g (Some (Leaf r)) z w = won_opening (Variable x o ∷ (Variable y u ∷ es)) g w
+      won_last x o t (Variable y u ∷ es) g (Some Inner) z w = won_bind x o t (Variable y u ∷ es) g.1 w
+      won_last x o t (Group n ∷ es) g None z w = won_opening (Variable x o ∷ (Group n ∷ es)) g w
+      won_last x o t (Group n ∷ es) g (Some (Leaf r)) z w = won_opening (Variable x o ∷ (Group n ∷ es)) g w
+      won_last x o t (Group n ∷ es) g (Some Inner) z w = won_bind x o t (Group n ∷ es) g.1 w
 
       won_variable : (x : ℕ) (o : Option ℕ) (es : List Element) → Goods (Variable x o ∷ es) → (t : Bool) → fits o (get_or m p no_node).label ≡ t →
-          (by_rule go m (Variable x o ∷ es) p (size_at m p) e b (cond t (choose_last es (next (win m (p + size_at m p) e))) Open)).bound ≡ Some c → Won m (Variable x o ∷ es) p e b c
+          (by_rule go m (Variable x o ∷ es) p (size_at m p) e b (cond t (choose_last x es (next (win m (p + size_at m p) e))) Open)).bound ≡ Some c → Won m (Variable x o ∷ es) p e b c
       won_variable x o es g true z w = won_last x o (subst T (sym z) tt) es g (next (win m (p + size_at m p) e)) refl w
       won_variable x o es g false z w = won_opening (Variable x o ∷ es) g w
 
-      won_enter : (n : ℕ) (es : List Element) → Goods (Group n ∷ es) → (by_rule go m (Group n ∷ es) p (size_at m p) e b Enter).bound ≡ Some c → Won m (Group n ∷ es) p e b c
+      won_enter : (n : ℕ) (es : List Element) → Goods (Group n ∷ es) → (by_rule go m (Group n ∷ es) p (size_at m p) e b (Enter n)).bound ≡ Some c → Won m (Group n ∷ es) p e b c
       won_enter n es g w =
           let (d, i, j) = after_some (go (take (n - 1) es) (p + 1) (p + size_at m p) b) (go (drop n (Group n ∷ es)) (p + size_at m p) e) c w in
           let y : (go (drop (n - 1) es) (p + size_at m p) e d).bound ≡ Some c = subst (λ (r : List Element). (go r (p + size_at m p) e d).bound ≡ Some c) (drop_group n (Group n) es g.0) j in

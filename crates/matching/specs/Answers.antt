@@ -1,5 +1,5 @@
 -- What a match answers.
-use Rattle.std.specs.Prelude.{◌≡◌, ℕ, ◌*◌, ◌<◌, ◌≤◌, Bool, true, false, cond, List, map, length, is_ok, Some, None, Ok, Err, Option, Result, nat_lt}
+use Rattle.std.specs.Prelude.{◌≡◌, ℕ, ◌*◌, ◌<◌, ◌≤◌, true, cond, List, map, length, is_ok, Some, None, Ok, Err, Option, Result, nat_lt}
 use Rattle.refusals.specs.declared.Refusal.{Refusal}
 use Rattle.refusals.specs.declared.Cause.TheVariants.{NoMatch}
 use Rattle.refusals.specs.declared.Layer.TheVariants.{Pattern}
@@ -8,14 +8,15 @@ use Rattle.trees.specs.Forest.{Forest, Law, size_at, subtree}
 use Rattle.trees.specs.Questions.{no_such_place}
 use Rattle.patterns.specs.declared.row.Element.{Element}
 use Rattle.matching.specs.declared.found.Match.{Match}
+use Rattle.matching.specs.declared.found.Mismatch.{Mismatch}
 use Rattle.matching.specs.Rules.{Bindings, Outcome, match_at_lem}
 use Rattle.matching.specs.Laws.{moved}
 use Rattle.matching.specs.Readings.{Substitution, Reads, Plain, bound_trees}
 
 -- The outcome of a level that went well or not, with what was found.
-abbrev pub ended : Bool → Match → Outcome
-ended true a = record { bound = Some a.places; steps = a.steps }
-ended false a = record { bound = None; steps = a.steps }
+abbrev pub ended : Result (Unit {0}) Mismatch → Match → Outcome
+ended (Ok u) a = record { bound = Some a.places; steps = a.steps }
+ended (Err e) a = record { bound = None; steps = a.steps }
 
 -- The refusal of a match that fails after n steps.
 abbrev pub no_match : ℕ → Refusal

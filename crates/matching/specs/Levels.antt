@@ -1,11 +1,11 @@
 -- What a level of a pattern is, where bound places lie, and what is known of the nodes ahead.
-use Rattle.std.specs.Prelude.{◌≡◌, ℕ, ◌<◌, ◌≤◌, cond, List, length, Some, None, Option, nat_lt, slice_index_or}
+use Rattle.std.specs.Prelude.{◌≡◌, ℕ, ◌<◌, ◌≤◌, cond, List, length, Some, None, Option, IfSome, nat_lt, slice_index_or}
 use Rattle.trees.specs.Forest.{Forest, label_at, size_at}
 use Rattle.patterns.specs.declared.row.Element.{Element}
 use Rattle.patterns.specs.Elements.{extent, least_extent, number_of, element_at, ends}
 use Rattle.matching.specs.declared.nodes.Node.{Node}
-use Rattle.matching.specs.declared.rule.Next.{Next}
-use Rattle.matching.specs.declared.rule.Next.TheVariants.{Nothing, Leaf, Inner}
+use Rattle.matching.specs.declared.nodes.Seen.{Seen}
+use Rattle.matching.specs.declared.nodes.Seen.TheVariants.{Leaf, Inner}
 use Rattle.matching.specs.Rules.{Bindings}
 
 -- The element at i is whole: one of 16 variables or no variable, a group with something in it or no group, and it ends inside the level and inside each group that holds it.
@@ -25,10 +25,8 @@ BoundInside m b = (x q : ℕ) → slice_index_or b x None ≡ Some q → q < len
 
 -- What is known of the node at a place: nothing yet, or its label and its size.
 abbrev pub Known : Forest → ℕ → Option Node → Type 0
-Known m p None = Unit {0}
-Known m p (Some a) = (a.label ≡ label_at m p) × (a.size ≡ size_at m p)
+Known m p o = IfSome o (λ a. (a.label ≡ label_at m p) × (a.size ≡ size_at m p))
 
--- What a node that was asked for is to those before it.
-abbrev pub seen : Option Node → Next
-seen None = Nothing
-seen (Some a) = cond (nat_lt 1 a.size) Inner (Leaf a.label)
+-- What a node is to those before it.
+abbrev pub seen : Node → Seen
+seen a = cond (nat_lt 1 a.size) Inner (Leaf a.label)

@@ -3,8 +3,8 @@ use Rattle.std.specs.Prelude.{ℕ, zero, suc, ◌+◌, ◌-◌, Bool, true, cond
 use Rattle.trees.specs.Forest.{Forest, compared, same, size_at, subtree}
 use Rattle.patterns.specs.declared.row.Element.{Element}
 use Rattle.patterns.specs.declared.row.Element.TheVariants.{Lexeme, Variable, Group}
-use Rattle.matching.specs.declared.rule.Next.{Next}
-use Rattle.matching.specs.declared.rule.Next.TheVariants.{Nothing, Leaf, Inner}
+use Rattle.matching.specs.declared.nodes.Seen.{Seen}
+use Rattle.matching.specs.declared.nodes.Seen.TheVariants.{Leaf, Inner}
 use Rattle.matching.specs.declared.rule.Rule.{Rule}
 use Rattle.matching.specs.declared.rule.Rule.TheVariants.{Done, Stuck, BothGo, BindBeforeLexeme, BindBeforeInner, BindLast, Enter, Open}
 
@@ -17,32 +17,32 @@ abbrev pub fits : Option ℕ → ℕ → Bool
 fits None l = true
 fits (Some c) l = c == l
 
--- What a forest begins with.
-abbrev pub next : Forest → Next
-next [] = Nothing
-next (a ∷ f) = cond (nat_lt 1 a.size) Inner (Leaf a.label)
+-- What a forest begins with, if anything.
+abbrev pub next : Forest → Option Seen
+next [] = None
+next (a ∷ f) = Some (cond (nat_lt 1 a.size) Inner (Leaf a.label))
 
--- The rule at an inner node that suits a variable, by the elements behind the variable and by what follows the node's tree.
-abbrev pub choose_last : List Element → Next → Rule
-choose_last [] Nothing = BindLast
-choose_last [] (Leaf l) = Open
-choose_last [] Inner = BindBeforeInner
-choose_last (Lexeme m ∷ es) Nothing = Open
-choose_last (Lexeme m ∷ es) (Leaf l) = cond (alike m l) BindBeforeLexeme Open
-choose_last (Lexeme m ∷ es) Inner = BindBeforeInner
-choose_last (Variable x c ∷ es) Nothing = Open
-choose_last (Variable x c ∷ es) (Leaf l) = Open
-choose_last (Variable x c ∷ es) Inner = BindBeforeInner
-choose_last (Group k ∷ es) Nothing = Open
-choose_last (Group k ∷ es) (Leaf l) = Open
-choose_last (Group k ∷ es) Inner = BindBeforeInner
+-- The rule at an inner node that suits the variable x, by the elements behind the variable and by what follows the node's tree.
+abbrev pub choose_last : ℕ → List Element → Option Seen → Rule
+choose_last x [] None = BindLast x
+choose_last x [] (Some (Leaf l)) = Open
+choose_last x [] (Some Inner) = BindBeforeInner x
+choose_last x (Lexeme m ∷ es) None = Open
+choose_last x (Lexeme m ∷ es) (Some (Leaf l)) = cond (alike m l) (BindBeforeLexeme x) Open
+choose_last x (Lexeme m ∷ es) (Some Inner) = BindBeforeInner x
+choose_last x (Variable y c ∷ es) None = Open
+choose_last x (Variable y c ∷ es) (Some (Leaf l)) = Open
+choose_last x (Variable y c ∷ es) (Some Inner) = BindBeforeInner x
+choose_last x (Group k ∷ es) None = Open
+choose_last x (Group k ∷ es) (Some (Leaf l)) = Open
+choose_last x (Group k ∷ es) (Some Inner) = BindBeforeInner x
 
 -- The rule at an inner node with the label l, where the forest f follows its tree.
 abbrev pub choose_inner : List Element → ℕ → Forest → Rule
 choose_inner [] l f = Stuck
 choose_inner (Lexeme m ∷ es) l f = Open
-choose_inner (Variable x c ∷ es) l f = cond (fits c l) (choose_last es (next f)) Open
-choose_inner (Group k ∷ es) l f = Enter
+choose_inner (Variable x c ∷ es) l f = cond (fits c l) (choose_last x es (next f)) Open
+choose_inner (Group k ∷ es) l f = Enter k
 
 -- The rule at a leaf with the label l.
 abbrev pub choose_leaf : List Element → ℕ → Rule
@@ -96,20 +96,6 @@ abbrev pub bind : Forest → Bindings → Option ℕ → ℕ → ℕ → (Bindin
 bind m b None x p k = k (slice_set b x (Some p))
 bind m b (Some q) x p k = tick (compared (subtree m q) (subtree m p)) (cond (same (subtree m q) (subtree m p)) (k b) fails)
 
--- The variable that some elements begin with.
-abbrev pub variable : List Element → ℕ
-variable [] = 0
-variable (Lexeme m ∷ es) = 0
-variable (Variable x c ∷ es) = x
-variable (Group k ∷ es) = 0
-
--- The size of the group that some elements begin with, its own element counted.
-abbrev pub group : List Element → ℕ
-group [] = 0
-group (Lexeme m ∷ es) = 0
-group (Variable x c ∷ es) = 0
-group (Group k ∷ es) = k
-
 -- How some elements fare between two places, with the bindings so far.
 abbrev pub Walk : Type 0
 Walk = List Element → ℕ → ℕ → Bindings → Outcome
@@ -119,10 +105,10 @@ abbrev pub by_rule : Walk → Forest → List Element → ℕ → ℕ → ℕ �
 by_rule go m es p s e b Done = settled b
 by_rule go m es p s e b Stuck = fails
 by_rule go m es p s e b BothGo = tick 1 (go (drop 1 es) (p + 1) e b)
-by_rule go m es p s e b BindBeforeLexeme = tick 1 (bind m b (slice_index_or b (variable es) None) (variable es) p (go (drop 2 es) (p + s + 1) e))
-by_rule go m es p s e b BindBeforeInner = tick 1 (bind m b (slice_index_or b (variable es) None) (variable es) p (go (drop 1 es) (p + s) e))
-by_rule go m es p s e b BindLast = tick 1 (bind m b (slice_index_or b (variable es) None) (variable es) p (go (drop 1 es) (p + s) e))
-by_rule go m es p s e b Enter = tick 1 (after (go (take (group es - 1) (drop 1 es)) (p + 1) (p + s) b) (go (drop (group es) es) (p + s) e))
+by_rule go m es p s e b (BindBeforeLexeme x) = tick 1 (bind m b (slice_index_or b x None) x p (go (drop 2 es) (p + s + 1) e))
+by_rule go m es p s e b (BindBeforeInner x) = tick 1 (bind m b (slice_index_or b x None) x p (go (drop 1 es) (p + s) e))
+by_rule go m es p s e b (BindLast x) = tick 1 (bind m b (slice_index_or b x None) x p (go (drop 1 es) (p + s) e))
+by_rule go m es p s e b (Enter k) = tick 1 (after (go (take (k - 1) (drop 1 es)) (p + 1) (p + s) b) (go (drop k es) (p + s) e))
 by_rule go m es p s e b Open = tick 1 (go es (p + 1) e b)
 
 -- Rule after rule, at most n deep.

@@ -1,38 +1,34 @@
 // How two subtrees are compared.
-ghost use Rattle.std.specs.Prelude.{◌≡◌, ◌<◌, ◌&&◌, length, ◌==◌};
+ghost use Rattle.std.specs.Prelude.{◌≡◌, ◌+◌, ◌<◌, ◌≤◌, length, is_ok};
 ghost use Rattle.trees.specs.Forest.{size_at, subtree, same, compared};
 
-use crate::nodes::{Node, node_at};
+use crate::found::Mismatch;
+use crate::matcher::Matcher;
 use trees::Tree;
 
-/// Whether two subtrees are the same, and how many pairs of nodes were compared to tell.
-#[derive(Clone, Copy)]
-pub struct Compared {
-    pub same: bool,
-    pub pairs: u32,
-}
-
-// Whether two nodes have the same label and the same size.
-fn same_nodes(a: Node, b: Node) -> bool
-    ensures { result ≡ (a.label == b.label) && (a.size == b.size) }
-{
-    a.label == b.label && a.size == b.size
-}
-
-// Compares the subtrees at two places, pair by pair in preorder up to the first difference; the size is that at the second.
-pub(crate) fn compare<T: Tree>(tree: &T, first: usize, second: usize, size: usize) -> Compared
-    requires { (first < length (T.Meant.meaning tree.now)) × ((second < length (T.Meant.meaning tree.now)) × (size ≡ size_at (T.Meant.meaning tree.now) second)) }
-    ensures same { result.same ≡ same (subtree (T.Meant.meaning tree.now) first) (subtree (T.Meant.meaning tree.now) second) }
-    ensures pairs { result.pairs ≡ compared (subtree (T.Meant.meaning tree.now) first) (subtree (T.Meant.meaning tree.now) second) }
-{
-    let mut pairs = 0;
-    for i in 0..size {
-        let a = node_at(tree, first + i);
-        let b = node_at(tree, second + i);
-        pairs += 1;
-        if !same_nodes(a, b) {
-            return Compared { same: false, pairs };
+impl<'t, T: Tree> Matcher<'t, T> {
+    // Compares the subtrees at two places, pair by pair in preorder up to the first difference, a step for each pair; the size is that at the second.
+    pub(crate) fn compare(
+        &mut self,
+        first: usize,
+        second: usize,
+        size: usize,
+    ) -> Result<(), Mismatch>
+        requires first { first < length (T.Meant.meaning self.old.tree.now) }
+        requires second { second < length (T.Meant.meaning self.old.tree.now) }
+        requires size { size ≡ size_at (T.Meant.meaning self.old.tree.now) second }
+        requires room { self.old.found.steps + size ≤ 8192 }
+        ensures same { let m = T.Meant.meaning self.old.tree.now in is_ok result ≡ same (subtree m first) (subtree m second) }
+        ensures steps { let m = T.Meant.meaning self.old.tree.now in self.new.found.steps ≡ self.old.found.steps + compared (subtree m first) (subtree m second) }
+        ensures places { self.new.found.places ≡ self.old.found.places }
+        ensures tree { self.new.tree ≡ self.old.tree }
+    {
+        for i in 0..size {
+            self.found.steps += 1;
+            if self.node_at(first + i) != self.node_at(second + i) {
+                return Err(Mismatch);
+            }
         }
+        Ok(())
     }
-    Compared { same: true, pairs }
 }

@@ -11,13 +11,16 @@ mod choice;
 mod comparison;
 mod found;
 mod level;
+mod matcher;
 mod nodes;
 mod rule;
 
 pub use found::Match;
-use level::match_level;
+use found::Mismatch;
+use matcher::Matcher;
 use nodes::Node;
 use patterns::Pattern;
+use patterns::limits::MAX_VARIABLES;
 use refusals::{Cause, Layer, Refusal};
 use trees::Tree;
 
@@ -28,22 +31,17 @@ pub fn match_at<T: Tree>(tree: &T, pattern: &Pattern, place: usize) -> Result<Ma
 {
     let label = tree.label(place)?;
     let size = tree.size(place)?;
-    let node = Node { label, size };
-    let mut found = Match {
-        places: [None; 16],
-        steps: 0,
-    };
-    if match_level(
+    let mut matcher = Matcher {
         tree,
-        pattern.elements(),
-        Some(node),
-        place,
-        place + size,
-        &mut found,
-    ) {
-        Ok(found)
-    } else {
-        Err(no_match(found.steps))
+        found: Match {
+            places: [None; MAX_VARIABLES],
+            steps: 0,
+        },
+    };
+    let first = Some(Node { label, size });
+    match matcher.match_level(pattern.elements(), first, place, place + size) {
+        Ok(()) => Ok(matcher.found),
+        Err(Mismatch) => Err(no_match(matcher.found.steps)),
     }
 }
 

@@ -1,36 +1,30 @@
-// What the matcher asks of a tree.
-ghost use Rattle.std.specs.Prelude.{◌≡◌, ◌<◌, length};
-ghost use Rattle.trees.specs.Forest.{label_at, size_at};
-ghost use Rattle.matching.specs.Levels.{Known};
-
-use trees::Tree;
+// What is known of a node.
+ghost use Rattle.std.specs.Prelude.{◌≡◌};
+ghost use Rattle.matching.specs.Levels.{seen};
 
 /// The label and the size at a place.
-#[derive(Clone, Copy)]
+#[derive(Clone, Copy, PartialEq, Eq, Debug)]
 pub struct Node {
     pub label: u16,
     pub size: usize,
 }
 
-// The node at a place of the tree, asked for unless it is known.
-pub(crate) fn known_or_asked<T: Tree>(tree: &T, known: Option<Node>, place: usize) -> Node
-    requires { (place < length (T.Meant.meaning tree.now)) × (Known (T.Meant.meaning tree.now) place known) }
-    ensures label { result.label ≡ label_at (T.Meant.meaning tree.now) place }
-    ensures size { result.size ≡ size_at (T.Meant.meaning tree.now) place }
-{
-    match known {
-        Some(node) => node,
-        None => node_at(tree, place),
-    }
+/// What a node is to those before it: a leaf with a label, or an inner node.
+#[derive(Clone, Copy, PartialEq, Eq, Debug)]
+pub enum Seen {
+    Leaf(u16),
+    Inner,
 }
 
-// The node at a place of the tree.
-pub(crate) fn node_at<T: Tree>(tree: &T, place: usize) -> Node
-    requires { place < length (T.Meant.meaning tree.now) }
-    ensures label { result.label ≡ label_at (T.Meant.meaning tree.now) place }
-    ensures size { result.size ≡ size_at (T.Meant.meaning tree.now) place }
-{
-    let label = tree.label(place).unwrap();
-    let size = tree.size(place).unwrap();
-    Node { label, size }
+impl Node {
+    // What the node is to those before it.
+    pub(crate) fn seen(self) -> Seen
+        ensures { result ≡ seen self }
+    {
+        if 1 < self.size {
+            Seen::Inner
+        } else {
+            Seen::Leaf(self.label)
+        }
+    }
 }

@@ -1,22 +1,14 @@
-// The rules by which a pattern is matched, and what they look at.
+// The rules by which a pattern is matched.
 
-/// What is done next with the elements and the nodes ahead.
-#[derive(Clone, Copy)]
+/// What is done next with the elements and the nodes ahead, with the variable that is bound or the size of the group that is entered.
+#[derive(Clone, Copy, PartialEq, Eq, Debug)]
 pub enum Rule {
     Done,
     Stuck,
     BothGo,
-    BindBeforeLexeme,
-    BindBeforeInner,
-    BindLast,
-    Enter,
+    BindBeforeLexeme { variable: u8 },
+    BindBeforeInner { variable: u8 },
+    BindLast { variable: u8 },
+    Enter { size: u8 },
     Open,
-}
-
-/// What follows a tree: nothing, a leaf with a label, or an inner node.
-#[derive(Clone, Copy)]
-pub enum Next {
-    Nothing,
-    Leaf(u16),
-    Inner,
 }

@@ -1,12 +1,11 @@
 -- The facts that the type of patterns keeps are those of a row that is a pattern.
-use Rattle.std.proofs.Common.{◌≡◌, length, arith}
+use Rattle.std.proofs.Common.{◌≡◌, length, arith, length-take-le}
 use Rattle.patterns.specs.declared.pattern.Pattern.{Pattern}
 use Rattle.patterns.specs.Elements.{elements_of, IsPattern}
-use Rattle.patterns.proofs.Slots.{length_elements}
 
 pub kept : (p : Pattern) → IsPattern p.row
 kept p =
-    let n : length (elements_of p.row) ≡ p.row.count = length_elements p.row p.counted in
+    let n : length (elements_of p.row) ≡ p.row.count = length-take-le p.row.count p.row.elements p.counted in
     record {
       counted = p.counted;
       formed = record {

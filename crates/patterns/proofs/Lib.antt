@@ -1,3 +1,2 @@
 -- The proofs.
-pub mod Slots
 pub mod Kept

@@ -39,6 +39,6 @@ impl Pattern {
         ensures value { result.now ≡ elements_of self.now.row }
         ensures sound { WellFormed result.now }
     {
-        &self.row.elements[0..self.row.count]
+        &self.row.elements[..self.row.count]
     }
 }

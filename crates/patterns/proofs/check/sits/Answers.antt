@@ -1,62 +1,49 @@
--- Each refused element breaks a rule, and one that passes keeps them all.
-use Rattle.std.proofs.Common.{◌≡◌, ◌<◌, length, ap, ◌∙◌, ⊎_elim, arith, below_more}
-use Rattle.std.proofs.lemmas.Bool.{false≢true, leb-true, le-leb}
-use Rattle.patterns.specs.Elements.{extent, least_extent, number_of, element_at, elements_of, ends, around}
-use Rattle.patterns.proofs.Slots.{length_elements, around_in, around_out}
+-- What stands before an element holds it as the whole list does.
+use Rattle.std.proofs.Common.{◌≡◌, ℕ, zero, suc, ◌+◌, ◌<◌, ◌≤◌, ltb, cond, List, length, take, refl, ap, sym, ◌∙◌, arith, length-take-le, get_or-take}
+use Rattle.std.proofs.lemmas.Bool.{leb-true, le-leb}
+use Rattle.std.proofs.lemmas.Bool.Decides.{nat_tests}
+use Rattle.patterns.specs.declared.row.Element.{Element}
+use Rattle.patterns.specs.declared.row.Element.TheVariants.{Lexeme}
+use Rattle.patterns.specs.Elements.{extent, ends, around}
 use Rattle.patterns.proofs.check.sits.Goals as goal
-use Rattle.patterns.proofs.check.sits.Goals.{then-i-outer+else-outer-end, else-i-outer}
+use Rattle.patterns.proofs.check.sits.Goals.{then-is_sized, else-is_sized, then-end-elements, else-end-elements}
 
-pub returns-then-number-ge-MOST_VARIABLES : goal.returns-then-number-ge-MOST_VARIABLES
-returns-then-number-ge-MOST_VARIABLES c =
-    let e = c.element_of-element.ensures in
-    let number : c.variable_number-number.result ≡ number_of (element_at (elements_of c.args.row.now) c.args.i) = c.variable_number-number.ensures ∙ ap number_of e in
-    let most : c.extent_of-extent.result ≡ extent (element_at (elements_of c.args.row.now) c.args.i) = c.extent_of-extent.ensures.value ∙ ap extent e in
-    let least : c.least_extent_of-least.result ≡ least_extent (element_at (elements_of c.args.row.now) c.args.i) = c.least_extent_of-least.ensures ∙ ap least_extent e in
-    (λ f. absurd (false≢true f), λ s. absurd (⊎_elim (λ h. omega (arith, h, number, s.numbered)) (λ h. omega (arith, h.1, most, least, s.sized)) c.then-number-ge-MOST_VARIABLES.either))
+ends_before : (es : List Element) (i g : ℕ) → g < i → ends (take i es) g ≡ ends es g
+ends_before es i g h = ap (λ a. g + extent a) (get_or-take i es g (Lexeme 0) h)
 
-pub returns-then-end-row : goal.returns-then-end-row
-returns-then-end-row c =
-    let n : length (elements_of c.args.row.now) ≡ c.args.row.now.count = length_elements c.args.row.now c.requires.1.0 in
-    let most : c.extent_of-extent.result ≡ extent (element_at (elements_of c.args.row.now) c.args.i) = c.extent_of-extent.ensures.value ∙ ap extent c.element_of-element.ensures in
-    (λ f. absurd (false≢true f), λ s. absurd (omega (arith, n, most, s.inside, c.if-end-row.true)))
+around_before : (es : List Element) (i k n : ℕ) → n ≤ i → around (take i es) k n ≡ around es k n
+around_before es i k zero h = refl
+around_before es i k (suc n) h = λ j. around_before es i k n (omega arith) j + cond (ltb k (ends_before es i n (omega arith) j)) 1 0
 
-pub returns-then-outer-end : goal.returns-then-outer-end
-returns-then-outer-end c =
-    let most : c.extent_of-extent.result ≡ extent (element_at (elements_of c.args.row.now) c.args.i) = c.extent_of-extent.ensures.value ∙ ap extent c.element_of-element.ensures in
-    let inner : c.args.i < ends (elements_of c.args.row.now) c.loop-g.g = omega (arith, c.end_of-outer.ensures, c.if-i-outer.true) in
-    (λ f. absurd (false≢true f), λ s. absurd (omega (arith, most, c.end_of-outer.ensures, s.nested c.loop-g.g c.loop-g-test.true inner, c.if-outer-end.true)))
+-- an element that passed each test sits, and one that sits passes the last
+module _ (es : List Element) (i : ℕ) (h : i < length es) where
+  whole : length (take i es) ≡ i
+  whole = length-take-le i es (omega arith)
 
-pub loop-g-preserved : goal.loop-g-preserved
-loop-g-preserved c =
-    let most : c.extent_of-extent.result ≡ extent (element_at (elements_of c.args.row.now) c.args.i) = c.extent_of-extent.ensures.value ∙ ap extent c.element_of-element.ensures in
-    elim c.if-i-outer.branch [
-      | then-i-outer+else-outer-end w ↦ (
-        omega (arith, w.groups-is, c.loop-g.invariant.0, around_in (elements_of c.args.row.now) c.args.i c.loop-g.g (omega (arith, w.if-i-outer.true, c.end_of-outer.ensures))),
-        omega (arith, w.groups-is, c.loop-g.invariant.1),
-        below_more _ _ c.loop-g.invariant.2 (λ k. omega (arith, most, c.end_of-outer.ensures, w.if-outer-end.false)),
-      )
-      | else-i-outer w ↦ (
-        omega (arith, w.groups-is, c.loop-g.invariant.0, around_out (elements_of c.args.row.now) c.args.i c.loop-g.g (omega (arith, w.if-i-outer.false, c.end_of-outer.ensures))),
-        omega (arith, w.groups-is, c.loop-g.invariant.1),
-        below_more _ _ c.loop-g.invariant.2 (λ k. absurd (omega (arith, k, c.end_of-outer.ensures, w.if-i-outer.false))),
-      )
+  around_is : around (take i es) (length (take i es)) (length (take i es)) ≡ around es i i
+  around_is = (λ j. around (take i es) (whole j) (whole j)) ∙ around_before es i i i (omega arith)
+
+  nested_is : (end : ℕ) → ((g : ℕ) → g < length (take i es) → length (take i es) < ends (take i es) g → end ≤ ends (take i es) g) → (g : ℕ) → g < i → i < ends es g → end ≤ ends es g
+  nested_is end n g k l =
+      let e = ends_before es i g k in
+      omega (arith, e, whole, n g (omega (arith, whole)) (omega (arith, whole, e)))
+
+pub returns-then-is_nested : goal.returns-then-is_nested
+returns-then-is_nested c =
+    let es = c.args.elements.now in
+    let i = c.args.i in
+    let a = around_is es i c.requires in
+    elim c.if-end-elements.branch [
+      | then-end-elements w ↦
+          let z = c.is_sized.ensures.0 w.if-end-elements.true.0 in (
+            λ t. record {
+              numbered = z.0;
+              sized = z.1;
+              inside = omega (arith, c.extent.ensures.value, w.if-end-elements.true.1);
+              nested = λ g k l. omega (arith, c.extent.ensures.value, nested_is es i c.requires (i + c.extent.result) (w.is_nested.ensures.0 (sym w.value-is ∙ c.if-is_nested.true)) g k l);
+              shallow = omega (arith, a, c.groups_around.ensures, leb-true _ _ t);
+            },
+            λ s. le-leb _ _ (omega (arith, a, c.groups_around.ensures, s.shallow)),
+          )
+      | else-end-elements w ↦ elim c.if-is_sized.branch [ then-is_sized v ↦ absurd (grind (arith, nat_tests)) | else-is_sized v ↦ absurd (grind (arith, nat_tests)) ]
     ]
-
-pub returns : goal.returns
-returns c =
-    let n : length (elements_of c.args.row.now) ≡ c.args.row.now.count = length_elements c.args.row.now c.requires.1.0 in
-    let e = c.element_of-element.ensures in
-    let number : c.variable_number-number.result ≡ number_of (element_at (elements_of c.args.row.now) c.args.i) = c.variable_number-number.ensures ∙ ap number_of e in
-    let most : c.extent_of-extent.result ≡ extent (element_at (elements_of c.args.row.now) c.args.i) = c.extent_of-extent.ensures.value ∙ ap extent e in
-    let least : c.least_extent_of-least.result ≡ least_extent (element_at (elements_of c.args.row.now) c.args.i) = c.least_extent_of-least.ensures ∙ ap least_extent e in
-    let last : c.loop-g.g ≡ c.args.i = omega arith in
-    let groups : c.loop-g.groups ≡ around (elements_of c.args.row.now) c.args.i c.args.i = c.loop-g.invariant.0 ∙ ap (around (elements_of c.args.row.now) c.args.i) last in (
-      λ t. record {
-        numbered = omega (arith, number, c.if-number-ge-MOST_VARIABLES.false);
-        sized = omega (arith, most, least, c.if-extent-least.false);
-        inside = omega (arith, n, most, c.if-end-row.false);
-        nested = λ g h k. c.loop-g.invariant.2 g (omega arith) k;
-        shallow = omega (arith, groups, leb-true _ _ t);
-      },
-      λ s. le-leb _ _ (omega (arith, groups, s.shallow)),
-    )
