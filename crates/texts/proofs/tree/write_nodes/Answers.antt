@@ -1,70 +1,51 @@
--- A node that is read has a slot, which it fills; in the end all slots are as they should be.
-use Rattle.std.proofs.Common.{◌≡◌, ◌<◌, ◌≤◌, [], ◌∷◌, ◌++◌, length, take, drop, Ok, sym, refl, ap, ◌∙◌, subst, arith, length-take-le}
-use Rattle.std.proofs.lemmas.List.{take-append-drop}
-use Rattle.labels.specs.Entries.{entries}
-use Rattle.texts.specs.declared.nest.Step.TheVariants.{Node, Closed}
-use Rattle.texts.specs.Steps.{Stepped}
-use Rattle.texts.proofs.Winning.{same_ok, ok_is_not_err}
-use Rattle.texts.proofs.TreeLoops.{Reads, begins, node_on, closed_on, done_on, err_on, has_slot, write_on}
+-- A node that is read fills its slot; in the end all slots are as they should be.
+use Rattle.std.proofs.Common.{◌≡◌, ℕ, ◌+◌, length, take, Ok, subst, sym, ap, ◌∙◌, arith, length-take-le}
+use Rattle.std.proofs.lemmas.List.{take_all, take_more_set}
+use Rattle.texts.specs.Books.{entries_of}
+use Rattle.texts.specs.Tokens.{tokens_from}
+use Rattle.texts.specs.Steps.{scan_on, Stepped}
+use Rattle.texts.proofs.Results.{err_not_ok, same_ok}
+use Rattle.texts.proofs.Winning.{stays}
 use Rattle.texts.proofs.tree.write_nodes.Goals as goal
 
-pub loop-found-init : goal.loop-found-init
-loop-found-init c = (c.new-reader.ensures.text, record { read = begins (entries c.args.book.now.bytes.now) c.args.text.now c.new-reader.result.at c.new-reader.ensures.at; room = omega arith; rest = refl })
+pub loop-slot-init : goal.loop-slot-init
+loop-slot-init c = record { count = c.new-nodes.ensures.none; same = sym c.new-nodes.ensures.all }
 
--- what a step found, under the name that the arm gives it
-at_node : (c : goal.In-Node) → Stepped (entries c.args.book.now.bytes.now) c.loop-found.reader.text.now c.loop-found.nest c.loop-found.reader.at c.step.new.nest c.step.new.reader.at (Ok (Node c.in-Node.record))
-at_node c = subst (λ y. Stepped (entries c.args.book.now.bytes.now) c.loop-found.reader.text.now c.loop-found.nest c.loop-found.reader.at c.step.new.nest c.step.new.reader.at (Ok y)) c.in-Node.is c.in-Ok.ensures.stepped
+-- while slots are left, so are nodes
+pub unreachable-requires : goal.unreachable-requires
+unreachable-requires c =
+    let v = c.loop-slot.invariant in
+    let h = c.requires in
+    let i = c.loop-slot.slot-index in
+    let s = subst (λ x. Stepped c.loop-slot.nodes c.next_record.new.self (Ok x)) c.in-Ok-None.field-0-is c.in-Ok-None.ensures in
+    let n : length (take i c.loop-slot.records) ≡ i = length-take-le i c.loop-slot.records (omega arith) in
+    let same : take i c.loop-slot.records ≡ h.0 = same_ok (sym (v.same ∙ s.0 (take i c.loop-slot.records) (n ∙ sym v.count)) ∙ h.1) in
+    omega (arith, h.2, ap length same)
 
-at_closed : (c : goal.In-Closed) → Stepped (entries c.args.book.now.bytes.now) c.loop-found.reader.text.now c.loop-found.nest c.loop-found.reader.at c.step.new.nest c.step.new.reader.at (Ok Closed)
-at_closed c = subst (λ y. Stepped (entries c.args.book.now.bytes.now) c.loop-found.reader.text.now c.loop-found.nest c.loop-found.reader.at c.step.new.nest c.step.new.reader.at (Ok y)) c.in-Closed.is c.in-Ok.ensures.stepped
+pub unreachable-requires-in-Err : goal.unreachable-requires-in-Err
+unreachable-requires-in-Err c =
+    let v = c.loop-slot.invariant in
+    let i = c.loop-slot.slot-index in
+    let n : length (take i c.loop-slot.records) ≡ i = length-take-le i c.loop-slot.records (omega arith) in
+    err_not_ok (sym (v.same ∙ c.in-Err.ensures (take i c.loop-slot.records) (n ∙ sym v.count)) ∙ c.requires.1)
 
-on : (c : goal.In-Node) → Reads (entries c.args.book.now.bytes.now) c.args.text.now c.step.new.nest c.step.new.reader.at (take c.loop-found.count c.loop-found.records ++ (c.in-Node.record ∷ []))
-on c = node_on (entries c.args.book.now.bytes.now) c.args.text.now c.loop-found.reader.text.now c.loop-found.invariant.0 c.loop-found.nest c.loop-found.reader.at c.step.new.nest c.step.new.reader.at (take c.loop-found.count c.loop-found.records) c.loop-found.invariant.1.read c.in-Node.record (at_node c)
+pub loop-slot-preserved : goal.loop-slot-preserved
+loop-slot-preserved c =
+    let v = c.loop-slot.invariant in
+    let i = c.loop-slot.slot-index in
+    let q = c.next_record.new.self in
+    let s = subst (λ x. Stepped c.loop-slot.nodes q (Ok x)) c.in-Ok-Some.field-0-is c.in-Ok-Some.ensures in
+    let n : length (take i c.loop-slot.records) ≡ i = length-take-le i c.loop-slot.records (omega arith) in
+    record {
+      count = s.1 ∙ ap (λ (k : ℕ). k + 1) v.count;
+      same = v.same ∙ s.0 (take i c.loop-slot.records) (n ∙ sym v.count) ∙ ap (scan_on q) (sym (take_more_set c.loop-slot.records i c.in-Ok-Some.record (omega arith)));
+    }
 
-slot : (c : goal.In-Node) → c.loop-found.count < length c.loop-found.records
-slot c =
-    let w = c.loop-found.invariant.1 in
-    let l = has_slot (entries c.args.book.now.bytes.now) c.args.text.now c.step.new.nest c.step.new.reader.at (take c.loop-found.count c.loop-found.records) c.requires.0 c.in-Node.record (on c) c.requires.1 in
-    omega (arith, l, length-take-le c.loop-found.count c.loop-found.records w.room, c.requires.2, c.loop-found.auto.records)
-
-pub offset_bounds-records-count : goal.offset_bounds-records-count
-offset_bounds-records-count c = let l = slot c in omega arith
-
-pub bounds-records-count : goal.bounds-records-count
-bounds-records-count c = slot c
-
-pub overflow_add-count : goal.overflow_add-count
-overflow_add-count c = let l = slot c in omega arith
-
-pub loop-found-smaller-in-Node : goal.loop-found-smaller-in-Node
-loop-found-smaller-in-Node c =
-    let within : c.step.new.reader.at ≤ length c.step.new.reader.text.now = c.step.new.reader.within in
-    omega (arith, (at_node c).2, ap (λ r. length r.now) c.step.ensures.same, ap length c.loop-found.invariant.0)
-
-pub loop-found-preserved-in-Node : goal.loop-found-preserved-in-Node
-loop-found-preserved-in-Node c =
-    (ap (λ r. r.now) c.step.ensures.same ∙ c.loop-found.invariant.0, write_on (entries c.args.book.now.bytes.now) c.args.text.now c.step.new.nest c.step.new.reader.at c.loop-found.count c.args.records.now c.loop-found.records c.in-Node.record (slot c) (on c) c.loop-found.invariant.1.rest)
-
-pub loop-found-smaller : goal.loop-found-smaller
-loop-found-smaller c =
-    let within : c.step.new.reader.at ≤ length c.step.new.reader.text.now = c.step.new.reader.within in
-    omega (arith, (at_closed c).2, ap (λ r. length r.now) c.step.ensures.same, ap length c.loop-found.invariant.0)
-
-pub loop-found-preserved : goal.loop-found-preserved
-loop-found-preserved c =
-    let w = c.loop-found.invariant.1 in
-    (ap (λ r. r.now) c.step.ensures.same ∙ c.loop-found.invariant.0, record { read = closed_on (entries c.args.book.now.bytes.now) c.args.text.now c.loop-found.reader.text.now c.loop-found.invariant.0 c.loop-found.nest c.loop-found.reader.at c.step.new.nest c.step.new.reader.at (take c.loop-found.count c.loop-found.records) w.read (at_closed c); room = w.room; rest = w.rest })
-
-pub returns-in-Done : goal.returns-in-Done
-returns-in-Done c rs h =
-    let w = c.loop-found.invariant.1 in
-    let st = subst (λ y. Stepped (entries c.args.book.now.bytes.now) c.loop-found.reader.text.now c.loop-found.nest c.loop-found.reader.at c.step.new.nest c.step.new.reader.at (Ok y)) c.in-Done.is c.in-Ok.ensures.stepped in
-    let e = done_on (entries c.args.book.now.bytes.now) c.args.text.now c.loop-found.reader.text.now c.loop-found.invariant.0 c.loop-found.nest c.loop-found.reader.at c.step.new.nest c.step.new.reader.at (take c.loop-found.count c.loop-found.records) w.read st in
-    let same : take c.loop-found.count c.loop-found.records ≡ rs = same_ok (sym e.0 ∙ h) in
-    let n : c.loop-found.count ≡ length rs = sym (length-take-le c.loop-found.count c.loop-found.records w.room) ∙ ap length same in
-    sym (take-append-drop c.loop-found.count c.loop-found.records) ∙ ap (λ x. x ++ drop c.loop-found.count c.loop-found.records) same ∙ ap (λ x. rs ++ x) (w.rest ∙ ap (λ k. drop k c.args.records.now) n)
-
-pub returns-in-Err : goal.returns-in-Err
-returns-in-Err c rs h =
-    let e = err_on (entries c.args.book.now.bytes.now) c.args.text.now c.loop-found.reader.text.now c.loop-found.invariant.0 c.loop-found.nest c.loop-found.reader.at c.step.new.nest c.step.new.reader.at (take c.loop-found.count c.loop-found.records) c.loop-found.invariant.1.read c.in-Err.field-0 c.in-Err.ensures.stepped in
-    absurd (ok_is_not_err (sym e ∙ h))
+pub returns : goal.returns
+returns c =
+    let p = c.loop-slot.nodes in
+    let v = c.loop-slot.invariant in
+    let h = c.requires in
+    let all : take c.loop-slot.slot-index c.loop-slot.records ≡ c.loop-slot.records = take_all c.loop-slot.slot-index c.loop-slot.records (omega arith) in
+    let e = sym (v.same ∙ ap (scan_on p) all) ∙ h.1 in
+    h.1 ∙ ap Ok (stays (entries_of p.book.now) p.depth p.empty c.loop-slot.records (tokens_from p.reader.text.now p.reader.at) h.0 e (omega (arith, h.2)))
