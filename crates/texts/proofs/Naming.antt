@@ -6,7 +6,7 @@ use Rattle.std.specs.List.{position}
 use Rattle.std.specs.Option.{IfSome, MatchOption, IsSomeAnd, is_some, option_copied, option_map}
 use Rattle.std.specs.Slice.Iter.{iter_rest, iter_steps_back}
 use Rattle.std.specs.Str.{bytes_eq}
-use Rattle.std.proofs.lemmas.Bool.{cond-true, cond-false, cases_eq, eq-eqb, ne_eqb, le-ltb, lt-ltb, ltb-true, ltb-false}
+use Rattle.std.proofs.lemmas.Bool.{cond-true, cond-false, cases_eq, eq-eqb, ne_eqb, le-ltb, ltb-true, ltb-false}
 use Rattle.std.proofs.lemmas.Grind.{common_steps}
 use Rattle.std.proofs.lemmas.Iterator.{YieldsList}
 use Rattle.std.proofs.lemmas.Iterator.Consumers.{YieldsList-from_shown}
@@ -55,12 +55,6 @@ number_new ns w e h = ap (λ (o : Option ℕ). elim o as (λ _. Result ℕ Cause
 
 pub names_new : (ns : List (List ℕ)) (w : List ℕ) → number_in ns w ≡ None → length ns < 16 → names_with ns w ≡ w ∷ ns
 names_new ns w e h = ap (λ (o : Option ℕ). elim o as (λ _. List (List ℕ)) [ Some x ↦ ns | None ↦ cond (ltb 15 (length ns)) ns (w ∷ ns) ]) e ∙ cond-false _ _ _ (le-ltb 15 (length ns) (omega arith))
-
-pub names_old : (ns : List (List ℕ)) (w : List ℕ) (x : ℕ) → number_in ns w ≡ Some x → names_with ns w ≡ ns
-names_old ns w x e = ap (λ (o : Option ℕ). elim o as (λ _. List (List ℕ)) [ Some y ↦ ns | None ↦ cond (ltb 15 (length ns)) ns (w ∷ ns) ]) e
-
-pub names_full : (ns : List (List ℕ)) (w : List ℕ) → number_in ns w ≡ None → 16 ≤ length ns → names_with ns w ≡ ns
-names_full ns w e h = ap (λ (o : Option ℕ). elim o as (λ _. List (List ℕ)) [ Some y ↦ ns | None ↦ cond (ltb 15 (length ns)) ns (w ∷ ns) ]) e ∙ cond-true _ _ _ (lt-ltb 15 (length ns) (omega arith))
 
 inside : (ns : List (List ℕ)) (k : ℕ) (d : List ℕ) → k < length ns → name_numbered ns k ≡ Some (get_or ns (length ns - 1 - k) d)
 inside [] k d h = absurd (omega arith)

@@ -1,5 +1,5 @@
 -- How a tree text that is accepted was read, token by token.
-use Rattle.std.proofs.Common.{◌≡◌, ℕ, ◌+◌, ◌-◌, ◌≤◌, Bool, true, false, List, [], ◌∷◌, ◌++◌, length, Some, None, Ok, Err, Option, Result, sym, refl, ap, ◌∙◌, append_assoc, append-nil, arith, length-append}
+use Rattle.std.proofs.Common.{◌≡◌, ℕ, ◌+◌, ◌-◌, Bool, true, false, List, [], ◌∷◌, ◌++◌, length, Some, None, Ok, Err, Option, Result, sym, refl, ap, ◌∙◌, append_assoc, append-nil, arith, length-append}
 use Rattle.refusals.specs.declared.Cause.{Cause}
 use Rattle.refusals.specs.declared.Cause.TheVariants.{BadText}
 use Rattle.refusals.specs.declared.Refusal.{Refusal}
@@ -56,9 +56,6 @@ extends {es} {d} {e} {rs} (stop f) = ([], sym (append-nil rs))
 extends {es} {d} {e} {rs} (leaf w r p a s) = let x = extends s in (r ∷ x.0, x.1 ∙ append_assoc rs (r ∷ []) x.0)
 extends {es} {d} {e} {rs} (node w r p o a s) = let x = extends s in (r ∷ x.0, x.1 ∙ append_assoc rs (r ∷ []) x.0)
 extends (close b p f s) = extends s
-
-pub grows : (es : List Entry) (d : ℕ) (e : Bool) (rs : List Record) (ts : List Spot) (qs : List Record) → tree_scan es d e rs ts ≡ Ok qs → length rs ≤ length qs
-grows es d e rs ts qs h = let x = extends (scans es d e rs ts qs h) in omega (arith, ap length x.1, length-append rs x.0)
 
 no_more : (rs ps : List Record) → length rs ≡ length (rs ++ ps) → rs ++ ps ≡ rs
 no_more rs [] l = append-nil rs

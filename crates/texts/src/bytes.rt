@@ -11,18 +11,18 @@ pub(crate) fn is_blank(byte: u8) -> bool
     matches!(byte, b' ' | b'\t' | b'\n')
 }
 
-/// Whether a byte may stand in a word.
-pub(crate) fn is_word(byte: u8) -> bool
-    ensures { result ≡ wordy byte }
-{
-    matches!(byte, b'a'..=b'z' | b'A'..=b'Z' | b'0'..=b'9' | b'_' | b'.')
-}
-
 /// Whether a byte may stand in the name of a variable.
 pub(crate) fn is_name(byte: u8) -> bool
     ensures { result ≡ namey byte }
 {
     matches!(byte, b'a'..=b'z' | b'A'..=b'Z' | b'0'..=b'9' | b'_')
+}
+
+/// Whether a byte may stand in a word.
+pub(crate) fn is_word(byte: u8) -> bool
+    ensures { result ≡ wordy byte }
+{
+    is_name(byte) || byte == b'.'
 }
 
 /// Whether a byte may stand between two quotes.

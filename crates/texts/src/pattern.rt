@@ -54,7 +54,8 @@ pub fn variable_name(text: &[u8], number: usize) -> Option<&[u8]>
         match reader.next() {
             Token::End => return names.name(number),
             Token::Variable { name, .. } => {
-                let _known = names.number(name);
+                // Behind the first 16 names no other is kept.
+                let _number = names.number(name);
             }
             _ => {}
         }

@@ -24,7 +24,7 @@ impl<'a> Names<'a> {
         }
     }
 
-    /// The number of a name.
+    /// The number of a name. No two names are the same, so it is as well sought from the back, as the definition does.
     fn find(&self, name: &[u8]) -> Option<usize>
         ensures value { result ≡ number_in (names_in self.now) name.now }
         ensures below { IfSome result (λ n. n < 16) }

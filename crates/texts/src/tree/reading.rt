@@ -28,10 +28,7 @@ fn opens(reader: &mut Reader<'_>) -> bool
     ensures moved { reader.new.at ≡ (next_token reader.old.text.now reader.old.at).to }
     ensures same { reader.new.text ≡ reader.old.text }
 {
-    match reader.next() {
-        Token::Sign(byte) => byte == b'(',
-        _ => false,
-    }
+    matches!(reader.next(), Token::Sign(b'('))
 }
 
 // A refusal of the token that starts at a byte.

@@ -20,7 +20,7 @@ loop-names-preserved-in-Variable c =
     let ns = names_in c.loop-names.names in
     let v = names_variable c.in-Variable.constructor c.in-Variable.name ns in
     c.loop-names.invariant ∙ names_on c.loop-names.reader c.next.new.self _ ns c.in-Variable.ensures.token c.next.ensures.same c.next.ensures.moved v.1
-    ∙ ap (λ ms. names_among ms (tokens_from c.next.new.self.text.now c.next.new.self.at)) (v.0 ∙ sym c.number-known.ensures.names)
+    ∙ ap (λ ms. names_among ms (tokens_from c.next.new.self.text.now c.next.new.self.at)) (v.0 ∙ sym c.number-number.ensures.names)
 
 pub loop-names-smaller : goal.loop-names-smaller
 loop-names-smaller c =

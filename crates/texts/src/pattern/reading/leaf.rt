@@ -23,8 +23,7 @@ impl<'a, 'b> PatternReader<'a, 'b> {
     fn lexeme(&self, name: &[u8]) -> Result<Element, Cause>
         ensures { result ≡ lexeme_of (entries_of self.now.book.now) name.now }
     {
-        let label = self.label_of(name)?;
-        Ok(Element::Lexeme(label))
+        Ok(Element::Lexeme(self.label_of(name)?))
     }
 
     // The variable with a name, of which the number is kept.
@@ -33,6 +32,7 @@ impl<'a, 'b> PatternReader<'a, 'b> {
         ensures names { is_ok result ≡ true → names_in self.new.names ≡ names_with (names_in self.old.names) name.now }
         ensures others { OnlyNames self.old self.new }
     {
+        // Kept as a match: a closure that calls `label_of` has no contract that says so, and `map` with `transpose` found no proof.
         let constructor = match constructor {
             Some(constructor) => Some(self.label_of(constructor)?),
             None => None,

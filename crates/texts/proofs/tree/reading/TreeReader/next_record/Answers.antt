@@ -4,7 +4,7 @@ use Rattle.std.proofs.lemmas.Result.{err_from_is_err_and}
 use Rattle.texts.specs.Tokens.{is_end, next_token}
 use Rattle.texts.specs.TreeText.{is_open}
 use Rattle.texts.proofs.Lexing.{fewer, moves}
-use Rattle.texts.proofs.TreeSteps.{quoted_on, quoted_fault, sign_on, sign_at_fault, done, end_at_fault, no_node, word_alone_fault, word_fault, word_on}
+use Rattle.texts.proofs.TreeSteps.{quoted_on, quoted_fault, sign_on, sign_at_fault, done, end_at_fault, no_node, word_alone, word_fault, word_on}
 use Rattle.texts.proofs.tree.reading.TreeReader.next_record.Goals as goal
 
 pub returns-then-not-opens : goal.returns-then-not-opens
@@ -13,7 +13,7 @@ returns-then-not-opens c rs l =
     let v = c.loop-name.invariant in
     let h : is_open (next_token c.next-token.new.self.text.now c.next-token.new.self.at).what ≡ false = cc in
     v.same rs l
-    ∙ word_alone_fault c.loop-name.self c.next-token.new.self c.start-start.result e.same (c.start-start.ensures ∙ e.start) e.moved rs (l ∙ sym v.count) c.in-Word.name.now c.in-Word.ensures.token h
+    ∙ word_alone c.loop-name.self c.next-token.new.self c.start-start.result e.same (c.start-start.ensures ∙ e.start) e.moved rs (l ∙ sym v.count) c.in-Word.name.now c.in-Word.ensures.token h
     ∙ ap Err (sym c.refusal.ensures)
 
 pub returns-in_err-record-in-Word : goal.returns-in_err-record-in-Word
@@ -25,7 +25,7 @@ returns-in_err-record-in-Word c =
     rw (f.1, f.2)
     (λ rs l.
     v.same rs l
-    ∙ word_fault c.loop-name.self c.next-token.new.self c.start-start.result e.same (c.start-start.ensures ∙ e.start) e.moved rs (l ∙ sym v.count) c.in-Word.name.now c.in-Word.ensures.token _ h (sym c.node.ensures ∙ c.in_err-record-in-Word.was))
+    ∙ word_fault c.loop-name.self c.next-token.new.self c.start-start.result e.same (c.start-start.ensures ∙ e.start) e.moved rs (l ∙ sym v.count) c.in-Word.name.now c.in-Word.ensures.token c.opens.new.reader h c.opens.ensures.same c.opens.ensures.moved _ (sym c.node.ensures ∙ c.in_err-record-in-Word.was))
 
 pub returns-in-Word : goal.returns-in-Word
 returns-in-Word c =
@@ -37,7 +37,7 @@ returns-in-Word c =
     let f = fewer c.loop-name.self.reader c.opens.new.reader (o.same ∙ e.same) (omega (arith, m.onward, o.moved, e.moved)) (ap is_end (sym c.in-Word.ensures.token)) in (
       λ rs l.
           v.same rs l
-          ∙ word_on c.loop-name.self c.next-token.new.self c.start-start.result e.same (c.start-start.ensures ∙ e.start) e.moved rs (l ∙ sym v.count) c.in-Word.name.now c.in-Word.ensures.token c.opens.new.reader c.in_ok-record-in-Word.record h o.same o.moved (sym c.node.ensures ∙ c.in_ok-record-in-Word.was),
+          ∙ word_on c.loop-name.self c.next-token.new.self c.start-start.result e.same (c.start-start.ensures ∙ e.start) e.moved rs (l ∙ sym v.count) c.in-Word.name.now c.in-Word.ensures.token c.opens.new.reader h o.same o.moved c.in_ok-record-in-Word.record (sym c.node.ensures ∙ c.in_ok-record-in-Word.was),
       omega arith,
       omega (arith, v.left, f),
     )
