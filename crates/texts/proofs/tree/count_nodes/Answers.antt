@@ -5,9 +5,6 @@ use Rattle.std.proofs.lemmas.Result.{err_from_is_err_and}
 use Rattle.texts.specs.Steps.{Stepped}
 use Rattle.texts.proofs.tree.count_nodes.Goals as goal
 
-pub loop-record-init : goal.loop-record-init
-loop-record-init c = ([], sym c.new-nodes.ensures.none, sym c.new-nodes.ensures.all)
-
 pub returns-in_err-_record : goal.returns-in_err-_record
 returns-in_err-_record c =
     let v = c.loop-record.invariant in

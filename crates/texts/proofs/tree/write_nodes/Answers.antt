@@ -8,9 +8,6 @@ use Rattle.texts.proofs.Results.{err_not_ok, same_ok}
 use Rattle.texts.proofs.Winning.{stays}
 use Rattle.texts.proofs.tree.write_nodes.Goals as goal
 
-pub loop-slot-init : goal.loop-slot-init
-loop-slot-init c = record { count = c.new-nodes.ensures.none; same = sym c.new-nodes.ensures.all }
-
 -- while slots are left, so are nodes
 pub unreachable-requires : goal.unreachable-requires
 unreachable-requires c =
