@@ -1,5 +1,5 @@
 -- The elements of a pattern text that is accepted are a pattern.
-use Rattle.std.proofs.Common.{◌≡◌, ℕ, zero, suc, ◌-◌, ◌<◌, ◌≤◌, Bool, true, false, cond, ltb, List, [], ◌∷◌, ◌++◌, length, set, Some, None, Ok, Err, Option, Result, sym, refl, ap, ◌∙◌, subst, ⊎_elim, arith, lit<, lit≤}
+use Rattle.std.proofs.Common.{◌≡◌, ℕ, zero, suc, ◌-◌, ◌<◌, ◌≤◌, true, cond, ltb, List, [], ◌∷◌, ◌++◌, length, set, Some, None, Ok, Err, Option, Result, sym, refl, ap, ◌∙◌, subst, ⊎_elim, arith, lit<, lit≤}
 use Rattle.std.specs.Str.{bytes_eq}
 use Rattle.std.proofs.lemmas.Bool.{ltb-true, ltb-false, cases_Bool, cond-true, cond-false, false≢true}
 use Rattle.refusals.specs.declared.Cause.{Cause}
@@ -8,33 +8,15 @@ use Rattle.refusals.specs.declared.Refusal.{Refusal}
 use Rattle.labels.specs.Entries.{Entry}
 use Rattle.patterns.specs.declared.row.Element.{Element}
 use Rattle.patterns.specs.declared.row.Element.TheVariants.{Lexeme, Variable, Group}
-use Rattle.patterns.specs.declared.row.Row.{Row}
+use Rattle.texts.specs.declared.pattern.row_builder.RowBuilder.{RowBuilder}
 use Rattle.patterns.specs.Elements.{extent, least_extent, number_of, elements_of, WellFormed, IsPattern}
 use Rattle.texts.specs.Tokens.{Shape, word, quoted, variable, sign, open_group, close_group, fault, end, Spot, next_token, is_end, lex, tokens_from}
-use Rattle.texts.specs.PatternText.{also, known_label, known_constructor, number_in, number_for, names_with, lexeme_of, leaf_of, names_after, Draft, drafted, one_more, with_leaf, with_group, closed, ended, with_token, pattern_fault, pattern_scan, scanned}
-use Rattle.texts.specs.PatternSteps.{Fine}
+use Rattle.texts.specs.Results.{also}
+use Rattle.texts.specs.PatternText.{known_label, known_constructor, number_in, number_for, names_with, lexeme_of, leaf_of, names_after, Draft, drafted, one_more, with_leaf, with_group, closed, ended, with_token, pattern_fault, pattern_scan, scanned}
 use Rattle.texts.proofs.Lexing.{moves, lex_next}
 use Rattle.texts.proofs.Nesting.{Stand, stand_none, stand_leaf, stand_open, stand_closed, stand_whole}
+use Rattle.texts.proofs.Results.{err_not_ok, same_ok, also_ok, then_ok, else_ok}
 use Rattle.texts.proofs.Scanning.{scan_next, scan_none}
-
-err_not_ok : {X F : Type 0} {x : X} {f : F} → ◌≡◌ {A = Result X F} (Err f) (Ok x) → ⊥
-err_not_ok h = let z : ◌≡◌ {A = ℕ} 0 1 = cc in omega arith
-
-pub same_ok : {X F : Type 0} {x y : X} → ◌≡◌ {A = Result X F} (Ok x) (Ok y) → x ≡ y
-same_ok h = cc
-
-pub also_ok : {X Y F : Type 0} (a : Result X F) (go : X → Result Y F) {q : Y} → also a go ≡ Ok q → (x : X) × (a ≡ Ok x) × (go x ≡ Ok q)
-also_ok (Ok x) go h = (x, refl, h)
-also_ok (Err c) go h = absurd (err_not_ok h)
-
--- the branch that answers
-then_ok : {X F : Type 0} (b : Bool) (x : Result X F) (f : F) {q : X} → cond b x (Err f) ≡ Ok q → (b ≡ true) × (x ≡ Ok q)
-then_ok true x f h = (refl, h)
-then_ok false x f h = absurd (err_not_ok h)
-
-else_ok : {X F : Type 0} (b : Bool) (x : Result X F) (f : F) {q : X} → cond b (Err f) x ≡ Ok q → (b ≡ false) × (x ≡ Ok q)
-else_ok true x f h = absurd (err_not_ok h)
-else_ok false x f h = (refl, h)
 
 pub one_more_ok : (xs : List Element) (x : Element) {ys : List Element} → one_more xs x ≡ Ok ys → (length xs < 64) × (ys ≡ xs ++ (x ∷ []))
 one_more_ok xs x h = let a = else_ok (ltb 63 (length xs)) (Ok (xs ++ (x ∷ []))) TooMany h in (omega (arith, ltb-false 63 (length xs) a.0), sym (same_ok a.1))
@@ -179,5 +161,5 @@ accepted es s xs h =
     let a = also_ok (pattern_scan es (drafted [] [] []) (tokens_from s 0)) (λ d. Ok d.elements) h in
     subst WellFormed (same_ok a.2) (whole_scan es (drafted [] [] []) a.0 (tokens_from s 0) (record { stand = stand_none; few_names = omega arith }) (tokens_end s) a.1).formed
 
-pub accepted_row : (es : List Entry) (s : List ℕ) (r : Row) → Fine r → scanned es (tokens_from s 0) ≡ Ok (elements_of r) → IsPattern r
-accepted_row es s r f h = record { counted = omega (arith, f.few, f.full); formed = accepted es s (elements_of r) h }
+pub accepted_row : (es : List Entry) (s : List ℕ) (r : RowBuilder) → scanned es (tokens_from s 0) ≡ Ok (elements_of r.row) → IsPattern r.row
+accepted_row es s r h = record { counted = omega (arith, r.few, r.full); formed = accepted es s (elements_of r.row) h }

@@ -3,13 +3,13 @@ use Rattle.std.proofs.Common.{◌≡◌, ℕ, zero, suc, ◌+◌, ◌-◌, ◌<�
 use Rattle.std.proofs.lemmas.List.{get_or_past}
 use Rattle.std.proofs.lemmas.List.Sums.{prefix_len-le-length, prefix_len-drop_yes}
 use Rattle.std.proofs.lemmas.Bool.{false≢true, cond_both, cond-true, cond-false, and_parts, cases_lt, ltb-true, ltb-false}
-use Rattle.texts.specs.declared.bytes.Kind.{Kind}
-use Rattle.texts.specs.declared.bytes.Kind.TheVariants.{Blanks, Words, Names, Quotes}
-use Rattle.texts.specs.Bytes.{letter, wordy, seen, passes, run_end}
+use Rattle.labels.specs.Entries.{name_byte}
+use Rattle.texts.specs.declared.reader.Reader.{Reader}
+use Rattle.texts.specs.Bytes.{blank, letter, namey, wordy, seen, run_end}
 use Rattle.texts.specs.Tokens.{Shape, Lexed, lexed, quoted_at, variable_at, constructed_at, percent_at, token_at, next_token, is_end, Spot, lex, tokens_from}
 
-pub run_within : (k : Kind) (s : List ℕ) (i : ℕ) → i ≤ length s → run_end k s i ≤ length s
-run_within k s i h = omega (arith, prefix_len-le-length (passes k) (drop i s), length-drop i s)
+pub run_within : (p : ℕ → Bool) (s : List ℕ) (i : ℕ) → i ≤ length s → run_end p s i ≤ length s
+run_within p s i h = omega (arith, prefix_len-le-length p (drop i s), length-drop i s)
 
 inside : (p : ℕ → Bool) (s : List ℕ) (j : ℕ) → p 0 ≡ false → p (get_or s j 0) ≡ true → j < length s
 inside p s j no_zero yes-here = ⊎_elim (λ h. h) (λ h. absurd (false≢true (sym no_zero ∙ ap p (sym (get_or_past s j 0 h)) ∙ yes-here))) (cases_lt j (length s))
@@ -31,17 +31,17 @@ module _ (s : List ℕ) (i : ℕ) (here : i < length s) where
 
   quoted_fits : Fits s i (quoted_at s i)
   quoted_fits =
-      let w = run_within Quotes s (i + 1) (omega arith) in
-      fits_cond (eqb (get_or s (run_end Quotes s (i + 1)) 0) 39 && (ltb (i + 1) (run_end Quotes s (i + 1)) && leb (run_end Quotes s (i + 1) - (i + 1)) 64)) (λ h. let e = inside (λ b. eqb b 39) s (run_end Quotes s (i + 1)) refl (and_parts _ _ h).0 in far _ (run_end Quotes s (i + 1) + 1) (omega arith) (omega arith)) (λ h. one _)
+      let w = run_within name_byte s (i + 1) (omega arith) in
+      fits_cond (eqb (get_or s (run_end name_byte s (i + 1)) 0) 39 && (ltb (i + 1) (run_end name_byte s (i + 1)) && leb (run_end name_byte s (i + 1) - (i + 1)) 64)) (λ h. let e = inside (λ b. eqb b 39) s (run_end name_byte s (i + 1)) refl (and_parts _ _ h).0 in far _ (run_end name_byte s (i + 1) + 1) (omega arith) (omega arith)) (λ h. one _)
 
   variable_fits : (k : Option (List ℕ)) (j : ℕ) → i < j → j ≤ length s → Fits s i (variable_at s k i j)
-  variable_fits k j l m = let w = run_within Names s j m in fits_cond (letter (get_or s j 0) && leb (run_end Names s j - j) 16) (λ h. far _ (run_end Names s j) (omega arith) w) (λ h. one _)
+  variable_fits k j l m = let w = run_within namey s j m in fits_cond (letter (get_or s j 0) && leb (run_end namey s j - j) 16) (λ h. far _ (run_end namey s j) (omega arith) w) (λ h. one _)
 
   constructed_fits : i + 1 < length s → Fits s i (constructed_at s i)
   constructed_fits l =
-      let w = run_within Words s (i + 2) (omega arith) in
-      fits_cond (eqb (get_or s (run_end Words s (i + 2)) 0) 62 && ltb (i + 2) (run_end Words s (i + 2)))
-      (λ h. let e = inside (λ b. eqb b 62) s (run_end Words s (i + 2)) refl (and_parts _ _ h).0 in variable_fits _ (run_end Words s (i + 2) + 1) (omega arith) (omega arith))
+      let w = run_within wordy s (i + 2) (omega arith) in
+      fits_cond (eqb (get_or s (run_end wordy s (i + 2)) 0) 62 && ltb (i + 2) (run_end wordy s (i + 2)))
+      (λ h. let e = inside (λ b. eqb b 62) s (run_end wordy s (i + 2)) refl (and_parts _ _ h).0 in variable_fits _ (run_end wordy s (i + 2) + 1) (omega arith) (omega arith))
       (λ h. one _)
 
   two : i + 1 < length s → (w : Shape) → Fits s i (lexed w (i + 2))
@@ -55,8 +55,8 @@ module _ (s : List ℕ) (i : ℕ) (here : i < length s) where
       (λ _. fits_cond (eqb (get_or s (i + 1) 0) 60) (λ h. constructed_fits (inside (λ b. eqb b 60) s (i + 1) refl h))
       (λ _. fits_cond (letter (get_or s (i + 1) 0)) (λ h. variable_fits _ (i + 1) (omega arith) (omega arith)) (λ h. one _)))))
 
-  word_fits : wordy (get_or s i 0) ≡ true → (w : Shape) → Fits s i (lexed w (run_end Words s i))
-  word_fits h w = let l = prefix_len-drop_yes wordy s i 0 here h in record { on = omega arith; in_text = run_within Words s i (omega arith) }
+  word_fits : wordy (get_or s i 0) ≡ true → (w : Shape) → Fits s i (lexed w (run_end wordy s i))
+  word_fits h w = let l = prefix_len-drop_yes wordy s i 0 here h in record { on = omega arith; in_text = run_within wordy s i (omega arith) }
 
   token_fits : Fits s i (token_at s i)
   token_fits =
@@ -80,13 +80,13 @@ pub record Moves (s : List ℕ) (i : ℕ) : Type 0 where
 pub moves : (s : List ℕ) (i : ℕ) → i ≤ length s → Moves s i
 unfolding next_token
 moves s i h =
-    let w = run_within Blanks s i h in
+    let w = run_within blank s i h in
     ⊎_elim
-    (λ l. let f = token_fits s (run_end Blanks s i) l in record { behind = omega arith; inner = f.in_text; forward = λ _. omega (arith, f.on); onward = omega (arith, f.on) })
+    (λ l. let f = token_fits s (run_end blank s i) l in record { behind = omega arith; inner = f.in_text; forward = λ _. omega (arith, f.on); onward = omega (arith, f.on) })
     (λ l.
-    let stays : (token_at s (run_end Blanks s i)).to ≡ run_end Blanks s i = cond_both (ltb (run_end Blanks s i) (length s)) _ _ (λ (t : Lexed). t.to ≡ run_end Blanks s i) (λ x. absurd (omega (arith, ltb-true _ _ x))) (λ _. refl) in
-    record { behind = omega arith; inner = omega (arith, stays); forward = λ e. absurd (end_token s (run_end Blanks s i) l e); onward = omega (arith, stays) })
-    (cases_lt (run_end Blanks s i) (length s))
+    let stays : (token_at s (run_end blank s i)).to ≡ run_end blank s i = cond_both (ltb (run_end blank s i) (length s)) _ _ (λ (t : Lexed). t.to ≡ run_end blank s i) (λ x. absurd (omega (arith, ltb-true _ _ x))) (λ _. refl) in
+    record { behind = omega arith; inner = omega (arith, stays); forward = λ e. absurd (end_token s (run_end blank s i) l e); onward = omega (arith, stays) })
+    (cases_lt (run_end blank s i) (length s))
 
 cond_same : {X : Type 0} (b : Bool) (x y z : X) → (b ≡ false → y ≡ z) → cond b x y ≡ cond b x z
 cond_same true x y z h = refl
@@ -125,3 +125,10 @@ rest_step s i h e =
 
 pub token_step : (s : List ℕ) (i : ℕ) → i ≤ length s → is_end (next_token s i).what ≡ false → tokens_from s i ≡ next_token s i ∷ tokens_from s (next_token s i).to
 token_step s i h e = some_token s i ∙ ap (λ ts. next_token s i ∷ ts) (rest_step s i h e)
+
+-- a reader that read a token which is not the end has fewer bytes left
+pub fewer : (p r : Reader) → r.text ≡ p.text → (next_token p.text.now p.at).to ≤ r.at → is_end (next_token p.text.now p.at).what ≡ false → length r.text.now - r.at < length p.text.now - p.at
+fewer p r t l n =
+    let m = moves p.text.now p.at p.within in
+    let f = m.forward n in
+    omega (arith, m.inner, ap (λ x. length x.now) t)

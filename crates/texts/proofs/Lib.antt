@@ -1,9 +1,9 @@
 -- The proofs.
-pub mod Runs
+pub mod Results
 pub mod Lexing
 pub mod TreeSteps
 pub mod Winning
-pub mod TreeLoops
+pub mod TreeAnswers
 pub mod Naming
 pub mod Scanning
 pub mod Grouping

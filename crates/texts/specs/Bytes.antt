@@ -1,9 +1,6 @@
 -- Kinds of bytes, and where a run of them ends.
 use Rattle.std.specs.Prelude.{ℕ, ◌+◌, Bool, ◌&&◌, ◌||◌, List, drop, ◌==◌, nat_le}
 use Rattle.std.specs.List.{prefix_len}
-use Rattle.labels.specs.Entries.{name_byte}
-use Rattle.texts.specs.declared.bytes.Kind.{Kind}
-use Rattle.texts.specs.declared.bytes.Kind.TheVariants.{Blanks, Words, Names, Quotes}
 
 -- A space, a tab or the end of a line.
 abbrev pub blank : ℕ → Bool
@@ -25,13 +22,6 @@ wordy b = (nat_le 97 b && nat_le b 122) || ((nat_le 65 b && nat_le b 90) || ((na
 abbrev pub seen : ℕ → Bool
 seen b = nat_le 33 b && nat_le b 126
 
--- A byte may stand in a run.
-abbrev pub passes : Kind → ℕ → Bool
-passes Blanks b = blank b
-passes Words b = wordy b
-passes Names b = namey b
-passes Quotes b = name_byte b
-
--- The end of the longest run from i on.
-abbrev pub run_end : Kind → List ℕ → ℕ → ℕ
-run_end k s i = i + prefix_len (passes k) (drop i s)
+-- The end of the longest run from i on of bytes that pass this test.
+abbrev pub run_end : (ℕ → Bool) → List ℕ → ℕ → ℕ
+run_end p s i = i + prefix_len p (drop i s)

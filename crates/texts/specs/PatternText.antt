@@ -9,12 +9,8 @@ use Rattle.refusals.specs.Numbers.{refused}
 use Rattle.labels.specs.Entries.{Entry, label_of}
 use Rattle.patterns.specs.declared.row.Element.{Element}
 use Rattle.patterns.specs.declared.row.Element.TheVariants.{Lexeme, Variable, Group}
+use Rattle.texts.specs.Results.{also}
 use Rattle.texts.specs.Tokens.{Shape, word, quoted, variable, sign, open_group, close_group, fault, end, Spot}
-
--- What follows a part that could be read.
-abbrev pub also : {X Y F : Type 0} → Result X F → (X → Result Y F) → Result Y F
-also (Ok x) go = go x
-also (Err c) go = Err c
 
 -- The label of a name.
 abbrev pub known_label : List Entry → List ℕ → Result ℕ Cause

@@ -1,8 +1,8 @@
 -- The tokens of a text.
 use Rattle.std.specs.Prelude.{ℕ, zero, suc, ◌+◌, ◌-◌, Bool, true, false, cond, ◌&&◌, List, [], ◌∷◌, length, Some, None, Option, ◌==◌, nat_le, nat_lt, slice_index, slice_index_or}
 use Rattle.std.specs.List.{between}
-use Rattle.texts.specs.Bytes.{letter, wordy, seen, run_end}
-use Rattle.texts.specs.declared.bytes.Kind.TheVariants.{Blanks, Words, Names, Quotes}
+use Rattle.labels.specs.Entries.{name_byte}
+use Rattle.texts.specs.Bytes.{blank, letter, namey, wordy, seen, run_end}
 use Rattle.texts.specs.declared.token.Token.{Token}
 use Rattle.texts.specs.declared.token.Token.TheVariants.{Word, Quoted, Variable, Sign, GroupOpen, GroupClose, Fault, End}
 
@@ -40,19 +40,19 @@ lexed w e = record { what = w; to = e }
 -- The token of the quote at i: a name of 1 to 64 bytes up to the next quote.
 abbrev pub quoted_at : List ℕ → ℕ → Lexed
 quoted_at s i =
-    (let e = run_end Quotes s (i + 1) in
+    (let e = run_end name_byte s (i + 1) in
     cond (slice_index s e == 39 && (nat_lt (i + 1) e && nat_le (e - (i + 1)) 64)) (lexed (quoted (between (i + 1) e s)) (e + 1)) (lexed fault (i + 1)))
 
 -- The token of the percent sign at i, where a variable's name has to start at j.
 abbrev pub variable_at : List ℕ → Option (List ℕ) → ℕ → ℕ → Lexed
 variable_at s k i j =
-    (let e = run_end Names s j in
+    (let e = run_end namey s j in
     cond (letter (slice_index s j) && nat_le (e - j) 16) (lexed (variable k (between j e s)) e) (lexed fault (i + 1)))
 
 -- The token of the percent sign at i, where a constructor has to stand behind the next byte.
 abbrev pub constructed_at : List ℕ → ℕ → Lexed
 constructed_at s i =
-    (let e = run_end Words s (i + 2) in
+    (let e = run_end wordy s (i + 2) in
     cond (slice_index s e == 62 && nat_lt (i + 2) e) (variable_at s (Some (between (i + 2) e s)) i (e + 1)) (lexed fault (i + 1)))
 
 -- The token of the percent sign at i: the next byte decides.
@@ -70,7 +70,7 @@ abbrev pub token_at : List ℕ → ℕ → Lexed
 token_at s i =
     (let b = slice_index_or s i 0 in
     cond (nat_lt i (length s))
-    (cond (wordy b) (lexed (word (between i (run_end Words s i) s)) (run_end Words s i))
+    (cond (wordy b) (lexed (word (between i (run_end wordy s i) s)) (run_end wordy s i))
     (cond (b == 39) (quoted_at s i)
     (cond (b == 37) (percent_at s i)
     (cond (seen b) (lexed (sign b) (i + 1)) (lexed fault (i + 1))))))
@@ -84,7 +84,7 @@ pub record Spot : Type 0 where
 
 -- The next token from i on.
 unfoldable pub next_token : List ℕ → ℕ → Spot
-next_token s i = (let b = run_end Blanks s i in record { what = (token_at s b).what; start = b; to = (token_at s b).to })
+next_token s i = (let b = run_end blank s i in record { what = (token_at s b).what; start = b; to = (token_at s b).to })
 
 -- A token is the end of its text.
 abbrev pub is_end : Shape → Bool

@@ -7,6 +7,7 @@ use Rattle.refusals.specs.declared.Refusal.{Refusal}
 use Rattle.refusals.specs.Numbers.{refused}
 use Rattle.labels.specs.Entries.{Entry, label_of}
 use Rattle.trees.specs.declared.record.Record.{Record}
+use Rattle.texts.specs.Results.{also}
 use Rattle.texts.specs.Tokens.{Shape, word, quoted, variable, sign, open_group, close_group, fault, end, Spot}
 
 -- A refusal of tree text at a byte.
@@ -21,11 +22,6 @@ node_answer es d n w i = elim (label_of es w) [
       cond (d == 0 && nat_lt 0 n) (Err (tree_fault OneTree i))
       (cond (nat_lt 4095 n || nat_lt 63 d) (Err (tree_fault TooMany i)) (Ok (record { depth = d; label = l })))
 ]
-
--- What follows a record that could be made.
-abbrev pub after : {X Y : Type 0} → Result X Refusal → (X → Result Y Refusal) → Result Y Refusal
-after (Ok r) go = go r
-after (Err f) go = Err f
 
 -- What is wrong with the end of a text, where d nodes are open and n were read.
 abbrev pub end_fault_lem : ℕ → ℕ → Option Cause
@@ -53,9 +49,9 @@ tree_scan es d empty rs (t ∷ []) = elim (end_fault_lem d (length rs)) [ None �
 tree_scan es d empty rs (t ∷ u ∷ us) = elim t.what [
   | word w ↦
       cond (is_open u.what)
-      (after (node_answer es d (length rs) w t.start) (λ r. tree_scan es (d + 1) true (rs ++ (r ∷ [])) us))
+      (also (node_answer es d (length rs) w t.start) (λ r. tree_scan es (d + 1) true (rs ++ (r ∷ [])) us))
       (Err (tree_fault BadText t.start))
-  | quoted w ↦ after (node_answer es d (length rs) w t.start) (λ r. tree_scan es d false (rs ++ (r ∷ [])) (u ∷ us))
+  | quoted w ↦ also (node_answer es d (length rs) w t.start) (λ r. tree_scan es d false (rs ++ (r ∷ [])) (u ∷ us))
   | variable k w ↦ Err (tree_fault BadText t.start)
   | sign b ↦ elim (sign_fault_lem b d empty) [ None ↦ tree_scan es (d - 1) false rs (u ∷ us) | Some c ↦ Err (tree_fault c t.start) ]
   | open_group ↦ Err (tree_fault BadText t.start)
@@ -66,7 +62,7 @@ tree_scan es d empty rs (t ∷ u ∷ us) = elim t.what [
 
 -- The records of a tree text by a book that was read.
 abbrev pub read_records_lem : Result (List Entry) Refusal → List Spot → Result (List Record) Refusal
-read_records_lem b ts = after b (λ es. tree_scan es 0 false [] ts)
+read_records_lem b ts = also b (λ es. tree_scan es 0 false [] ts)
 
 -- How many records fit into so many slots, or that they are too many.
 abbrev pub room_for : ℕ → List Record → Result ℕ Refusal
@@ -74,7 +70,7 @@ room_for n rs = cond (nat_lt n (length rs)) (Err (refused NoRoom Tree 0 0)) (Ok 
 
 -- The answer to the reading of tree text into so many slots.
 abbrev pub tree_answer : Result (List Entry) Refusal → List Spot → ℕ → Result ℕ Refusal
-tree_answer b ts n = after (read_records_lem b ts) (room_for n)
+tree_answer b ts n = also (read_records_lem b ts) (room_for n)
 
 -- What the slots hold after the reading: the records and then what stood there, or what stood there.
 abbrev pub tree_slots : Result (List Entry) Refusal → List Spot → List Record → List Record

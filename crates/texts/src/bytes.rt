@@ -1,45 +1,53 @@
-// Kinds of bytes, and where a run of them ends.
-ghost use Rattle.std.specs.Prelude.{◌≡◌, ◌<◌, ◌≤◌, length, slice_index};
-ghost use Rattle.texts.specs.Bytes.{passes, run_end};
+// Kinds of bytes, where a run of them ends, and the character at a place.
+ghost use Rattle.std.specs.Prelude.{◌≡◌, ◌<◌, ◌≤◌, ◌↔◌, ℕ, Bool, length, slice_index, IsSome};
+ghost use Rattle.std.specs.Option.{unwrap_or};
+ghost use Rattle.labels.specs.Entries.{name_byte};
+ghost use Rattle.texts.specs.Bytes.{blank, namey, run_end, wordy};
 
-/// What a run of bytes is made of.
-#[derive(Clone, Copy)]
-pub(crate) enum Kind {
-    Blanks,
-    Words,
-    Names,
-    Quotes,
-}
-
-/// Whether a byte may stand in a run.
-pub(crate) fn is_of(kind: Kind, byte: u8) -> bool
-    ensures { result ≡ passes kind byte }
+/// Whether a byte is a space, a tab or the end of a line.
+pub(crate) fn is_blank(byte: u8) -> bool
+    ensures { result ≡ blank byte }
 {
-    match kind {
-        Kind::Blanks => matches!(byte, b' ' | b'\t' | b'\n'),
-        Kind::Words => { matches!(byte, b'a'..=b'z' | b'A'..=b'Z' | b'0'..=b'9' | b'_' | b'.') }
-        Kind::Names => matches!(byte, b'a'..=b'z' | b'A'..=b'Z' | b'0'..=b'9' | b'_'),
-        Kind::Quotes => byte >= b'!' && byte <= b'~' && byte != b'\'',
-    }
+    matches!(byte, b' ' | b'\t' | b'\n')
 }
 
-/// Where the longest run from a byte on ends.
-pub(crate) fn run_end(kind: Kind, text: &[u8], from: usize) -> usize
-    requires { from ≤ length text.now }
-    ensures value { result ≡ run_end kind text.now from }
+/// Whether a byte may stand in the name of a variable.
+pub(crate) fn is_name(byte: u8) -> bool
+    ensures { result ≡ namey byte }
+{
+    matches!(byte, b'a'..=b'z' | b'A'..=b'Z' | b'0'..=b'9' | b'_')
+}
+
+/// Whether a byte may stand in a word.
+pub(crate) fn is_word(byte: u8) -> bool
+    ensures { result ≡ wordy byte }
+{
+    is_name(byte) || byte == b'.'
+}
+
+/// Whether a byte may stand between two quotes.
+pub(crate) fn is_quotable(byte: u8) -> bool
+    ensures { result ≡ name_byte byte }
+{
+    matches!(byte, b'!'..=b'~') && byte != b'\''
+}
+
+/// Where the longest run from a byte on ends of the bytes that pass a test.
+pub(crate) fn run_end<F: Fn(u8) -> bool>(text: &[u8], from: usize, test: F) -> usize
+    ghost passes: { ℕ → Bool }
+    requires callable { F.IsAlwaysCallable test }
+    requires tests { (byte : ℕ) (passed : Bool) → F.post test byte passed → passed ≡ passes byte }
+    requires inside { from ≤ length text.now }
+    ensures value { result ≡ run_end passes text.now from }
     ensures within { result ≤ length text.now }
 {
-    let mut at = from;
-    while at < text.len() && is_of(kind, text[at]) {
-        at += 1;
-    }
-    at
+    from + text[from..].iter().take_while(|byte| test(**byte)).count()
 }
 
-/// The byte at a place, and 0 behind the end.
-pub(crate) fn byte_at(text: &[u8], at: usize) -> u8
-    ensures value { result ≡ slice_index text.now at }
-    ensures inside { 0 < result → at < length text.now }
+/// The character at a place, and none behind the end.
+pub(crate) fn char_at(text: &[u8], at: usize) -> Option<char>
+    ensures value { unwrap_or result 0 ≡ slice_index text.now at }
+    ensures inside { IsSome result ↔ (at < length text.now) }
 {
-    if at < text.len() { text[at] } else { 0 }
+    text.get(at).map(|byte| char::from(*byte))
 }

@@ -2,9 +2,7 @@
 #![tactic(auto)]
 
 mod bytes;
-mod nest;
 pub mod pattern;
 pub mod reader;
-mod step;
 pub mod token;
 pub mod tree;

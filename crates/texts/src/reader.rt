@@ -25,13 +25,6 @@ impl<'a> Reader<'a> {
         }
     }
 
-    /// The text.
-    pub(crate) fn text(&self) -> &'a [u8]
-        ensures { result.now ≡ self.now.text.now }
-    {
-        self.text
-    }
-
     /// Where the last token starts.
     pub fn start(&self) -> usize
         ensures { result ≡ self.now.start }

@@ -1,7 +1,7 @@
 // The tokens of a text.
 
 /// A token, which is the part of the text that it was read from.
-#[derive(Clone, Copy)]
+#[derive(Clone, Copy, PartialEq, Eq, Debug)]
 pub enum Token<'a> {
     /// A longest run of letters, digits, underscores and points.
     Word(&'a [u8]),

@@ -1,56 +1,39 @@
 // The reading of tree text into an outline.
-ghost use Rattle.std.specs.Prelude.{◌≡◌, ◌≤◌, false, List, [], ◌++◌, length, drop, Ok, Err, MatchResult};
-ghost use Rattle.labels.specs.Entries.{entries, read_book};
+ghost use Rattle.std.specs.Prelude.{◌≡◌, false, List, [], length, Ok, Err, MatchResult};
+ghost use Rattle.labels.specs.Entries.{read_book};
 ghost use Rattle.trees.specs.declared.record.Record.{Record as Kept};
+ghost use Rattle.texts.specs.Books.{entries_of};
 ghost use Rattle.texts.specs.Tokens.{tokens};
 ghost use Rattle.texts.specs.TreeText.{tree_scan, tree_answer, tree_slots};
 
-use crate::nest::{Nest, Step};
-use crate::reader::Reader;
-use crate::step::step;
 use labels::book::Book;
+use reading::TreeReader;
 use refusals::{Cause, Layer, Refusal};
 use trees::outline::Record;
 
-const START: Nest = Nest {
-    depth: 0,
-    empty: false,
-    count: 0,
-};
+mod reading;
 
 // Checks a text, and counts the nodes of its tree.
 fn count_nodes(book: &Book<'_>, text: &[u8]) -> Result<usize, Refusal>
-    ensures { MatchResult result (λ n. ((rs : List Kept) × (tree_scan (entries book.now.bytes.now) 0 false [] (tokens text.now) ≡ Ok rs) × (n ≡ length rs))) (λ f. tree_scan (entries book.now.bytes.now) 0 false [] (tokens text.now) ≡ Err f) }
+    ensures { MatchResult result (λ n. ((rs : List Kept) × (tree_scan (entries_of book.now) 0 false [] (tokens text.now) ≡ Ok rs) × (n ≡ length rs))) (λ f. tree_scan (entries_of book.now) 0 false [] (tokens text.now) ≡ Err f) }
 {
-    let mut reader = Reader::new(text);
-    let mut nest = START;
-    loop {
-        let found = step(book, &mut reader, &mut nest)?;
-        if let Step::Done = found {
-            return Ok(nest.count);
-        }
-    }
+    let mut nodes = TreeReader::new(book, text);
+    while let Some(_record) = nodes.next_record()? {}
+    Ok(nodes.count())
 }
 
-// Writes the tree of a text that was checked into records that have room for it.
+// Writes the tree of a text that was checked into as many records as it has nodes.
 fn write_nodes(book: &Book<'_>, text: &[u8], records: &mut [Record])
-    requires { (rs : List Kept) × (tree_scan (entries book.now.bytes.now) 0 false [] (tokens text.now) ≡ Ok rs) × (length rs ≤ length records.old) }
-    ensures { (rs : List Kept) → tree_scan (entries book.now.bytes.now) 0 false [] (tokens text.now) ≡ Ok rs → records.new ≡ rs ++ drop (length rs) records.old }
+    requires { (rs : List Kept) × (tree_scan (entries_of book.now) 0 false [] (tokens text.now) ≡ Ok rs) × (length rs ≡ length records.old) }
+    ensures { tree_scan (entries_of book.now) 0 false [] (tokens text.now) ≡ Ok records.new }
 {
-    let mut reader = Reader::new(text);
-    let mut nest = START;
-    let mut count = 0;
-    loop {
-        match step(book, &mut reader, &mut nest) {
-            Ok(found) => match found {
-                Step::Node(record) => {
-                    records[count] = record;
-                    count += 1;
-                }
-                Step::Closed => {}
-                Step::Done => return,
-            },
-            Err(_) => return,
+    let mut nodes = TreeReader::new(book, text);
+    for slot in records.iter_mut() {
+        // There are as many nodes as slots, so each slot has one.
+        match nodes.next_record() {
+            Ok(Some(record)) => *slot = record,
+            Ok(None) => unreachable(),
+            Err(_) => unreachable(),
         }
     }
 }
@@ -66,6 +49,6 @@ pub fn read_tree(book: &[u8], text: &[u8], records: &mut [Record]) -> Result<usi
     if count > records.len() {
         return Err(Refusal::at(Cause::NoRoom, Layer::Tree, 0));
     }
-    write_nodes(&book, text, records);
+    write_nodes(&book, text, &mut records[..count]);
     Ok(count)
 }

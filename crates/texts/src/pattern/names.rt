@@ -1,94 +1,57 @@
 // The names of the variables of a pattern text.
-ghost use Rattle.std.specs.Prelude.{◌≡◌, ◌+◌, ◌-◌, ◌<◌, ◌≤◌, length, IfSome, slice_set};
-ghost use Rattle.std.specs.List.{between};
+ghost use Rattle.std.specs.Prelude.{◌≡◌, ◌<◌, [], IfSome};
 ghost use Rattle.std.specs.Option.{option_map};
 ghost use Rattle.texts.specs.PatternText.{number_in, number_for, names_with, name_numbered};
-ghost use Rattle.texts.specs.PatternSteps.{names_in, LieIn};
+ghost use Rattle.texts.specs.PatternSteps.{names_in};
 
+use arrayvec::ArrayVec;
+use patterns::limits::MAX_VARIABLES;
 use refusals::Cause;
 
-/// How many variables a pattern may have.
-const MOST_NAMES: usize = 16;
-
-/// Where in a text each name first stands, in the order of their first appearance.
-#[derive(Clone, Copy)]
-pub(crate) struct Names {
-    starts: [usize; 16],
-    ends: [usize; 16],
-    count: usize,
+/// The names in the order of their first appearance, each the part of the text where it first stands.
+#[derive(Drop)]
+pub(crate) struct Names<'a> {
+    parts: ArrayVec<&'a [u8], MAX_VARIABLES>,
 }
 
-impl Names {
+impl<'a> Names<'a> {
     /// No names.
-    pub(crate) fn new() -> Names
-        ensures { result.count ≡ 0 }
+    pub(crate) fn new() -> Names<'a>
+        ensures { names_in result ≡ [] }
     {
         Names {
-            starts: [0; 16],
-            ends: [0; 16],
-            count: 0,
+            parts: ArrayVec::new(),
         }
     }
 
-    /// The number of a name.
-    fn find(&self, text: &[u8], name: &[u8]) -> Option<usize>
-        requires { LieIn text.now self.now }
-        ensures value { result ≡ number_in (names_in text.now self.now) name.now }
-        ensures below { IfSome result (λ n. n < self.now.count) }
+    /// The number of a name. No two names are the same, so it is as well sought from the back, as the definition does.
+    fn find(&self, name: &[u8]) -> Option<usize>
+        ensures value { result ≡ number_in (names_in self.now) name.now }
+        ensures below { IfSome result (λ n. n < 16) }
     {
-        let mut left = self.count;
-        while left > 0 {
-            left -= 1;
-            if &text[self.starts[left]..self.ends[left]] == name {
-                return Some(left);
-            }
-        }
-        None
+        self.parts.as_slice().iter().rposition(|part| *part == name)
     }
 
-    /// Keeps where a new name starts and ends.
-    fn note(&mut self, start: usize, end: usize)
-        requires { self.old.count < 16 }
-        ensures starts { self.new.starts ≡ slice_set self.old.starts self.old.count start }
-        ensures ends { self.new.ends ≡ slice_set self.old.ends self.old.count end }
-        ensures count { self.new.count ≡ self.old.count + 1 }
+    /// The number of a name; a new one is kept.
+    pub(crate) fn number(&mut self, name: &'a [u8]) -> Result<u8, Cause>
+        ensures value { result ≡ number_for (names_in self.old) name.now }
+        ensures names { names_in self.new ≡ names_with (names_in self.old) name.now }
     {
-        let number = self.count;
-        self.starts[number] = start;
-        self.ends[number] = end;
-        self.count = number + 1;
-    }
-
-    /// The number of the name that ends at a byte of the text; a new one is kept.
-    pub(crate) fn number(&mut self, text: &[u8], name: &[u8], end: usize) -> Result<u8, Cause>
-        requires lie { LieIn text.now self.old }
-        requires behind { length name.now ≤ end }
-        requires inside { end ≤ length text.now }
-        requires here { between (end - length name.now) end text.now ≡ name.now }
-        ensures value { result ≡ number_for (names_in text.now self.old) name.now }
-        ensures lie { LieIn text.now self.new }
-        ensures names { names_in text.now self.new ≡ names_with (names_in text.now self.old) name.now }
-    {
-        if let Some(number) = self.find(text, name) {
+        if let Some(number) = self.find(name) {
             return Ok(number as u8);
         }
-        let number = self.count;
-        if number >= MOST_NAMES {
+        if self.parts.is_full() {
             return Err(Cause::TooMany);
         }
-        self.note(end - name.len(), end);
+        let number = self.parts.len();
+        self.parts.push(name);
         Ok(number as u8)
     }
 
     /// The name with a number, which is the part of the text where it first stands.
-    pub(crate) fn name<'a>(&self, text: &'a [u8], number: usize) -> Option<&'a [u8]>
-        requires { LieIn text.now self.now }
-        ensures { option_map (λ x. x.now) result ≡ name_numbered (names_in text.now self.now) number }
+    pub(crate) fn name(&self, number: usize) -> Option<&'a [u8]>
+        ensures { option_map (λ x. x.now) result ≡ name_numbered (names_in self.now) number }
     {
-        if number < self.count {
-            Some(&text[self.starts[number]..self.ends[number]])
-        } else {
-            None
-        }
+        self.parts.as_slice().get(number).copied()
     }
 }

@@ -1,13 +1,19 @@
--- A byte of the run moves on, and any other ends it.
-use Rattle.std.proofs.Common.{sym, arith}
-use Rattle.texts.proofs.Runs.{run_more, run_stop, run_all}
+-- The bytes that pass from a byte on are a run of them.
+use Rattle.std.proofs.Common.{◌≡◌, ◌∙◌, ◌+◌, ap, drop, arith, rules, tests, length-drop}
+use Rattle.std.specs.Slice.Iter.{iter_rest}
+use Rattle.std.proofs.lemmas.List.{take_all}
+use Rattle.std.proofs.lemmas.List.Folds.{length-prefix_len}
+use Rattle.std.proofs.lemmas.Iterator.{YieldsList-from_slice}
+use Rattle.std.proofs.lemmas.Iterator.Consumers.{count_from_yields_List, YieldsList-at}
+use Rattle.std.proofs.lemmas.Iterator.Search.{YieldsList-from_take_while}
 use Rattle.texts.proofs.bytes.run_end.Goals as goal
 
-pub loop-at-preserved : goal.loop-at-preserved
-loop-at-preserved c = (omega arith, run_more _ _ _ _ (omega arith) (sym c.if-is_of.ensures) c.loop-at.invariant.1)
-
-pub returns-else-is_of : goal.returns-else-is_of
-returns-else-is_of c = record { value = run_stop _ _ _ _ (omega arith) (sym c.if-is_of.ensures) c.loop-at.invariant.1; within = c.loop-at.invariant.0 }
-
-pub returns-after-loop-at : goal.returns-after-loop-at
-returns-after-loop-at c = record { value = run_all _ _ _ _ (omega arith) c.loop-at.invariant.1; within = c.loop-at.invariant.0 }
+pub returns-clause-value : goal.returns-clause-value
+returns-clause-value g c =
+    let s = drop c.args.from c.args.text.now in
+    let passed = c.requires.1.1.0 in
+    let whole : iter_rest c.iter.result ≡ s = c.iter.ensures.rest ∙ take_all _ s (omega (arith, length-drop c.args.from c.args.text.now)) in
+    let count =
+    count_from_yields_List c.take_while.result c.count.result c.count.ensures.ran
+    (YieldsList-from_take_while _ g.passes (YieldsList-at c.take_while.ensures.source (YieldsList-from_slice s whole)) c.take_while.ensures.closure c.take_while.ensures.done (λ x b q k. search (rules, tests, passed))) in
+    ap (λ n. c.args.from + n) (count ∙ length-prefix_len g.passes s)

@@ -1,10 +1,11 @@
--- A number below the count is that of a name, and no other is.
-use Rattle.std.proofs.Common.{sym, arith}
-use Rattle.texts.proofs.Naming.{name_inside, name_outside}
+-- What stands at a number is the name that has it.
+use Rattle.std.proofs.Common.{◌∙◌, ap}
+use Rattle.std.specs.Option.{option_map}
+use Rattle.texts.specs.PatternText.{name_numbered}
+use Rattle.texts.proofs.Naming.{backwards, name_from_get}
 use Rattle.texts.proofs.pattern.names.Names.name.Goals as goal
 
-pub returns-then-number-self : goal.returns-then-number-self
-returns-then-number-self c = sym (name_inside c.args.text.now c.args.self.now.starts c.args.self.now.ends c.args.self.now.count c.args.number (omega arith))
-
-pub returns-else-number-self : goal.returns-else-number-self
-returns-else-number-self c = sym (name_outside c.args.text.now c.args.self.now.starts c.args.self.now.ends c.args.self.now.count c.args.number (omega arith))
+pub returns : goal.returns
+returns c =
+    ap (option_map (λ x. x.now)) c.copied.ensures ∙ name_from_get c.as_slice.result.now c.args.number c.get.result c.get.ensures.lookup.0 c.get.ensures.lookup.1
+    ∙ ap (λ xs. name_numbered (backwards xs) c.args.number) c.as_slice.ensures.value
