@@ -1,12 +1,7 @@
 // A program that uses receipts rightly: each click that is opened is committed or abandoned, once.
 #![tactic(auto)]
 
-ghost use Rattle.std.specs.Prelude.{◌≡◌, false};
-ghost use Rattle.runs.specs.Session.{wrong};
-ghost use Rattle.sessions.specs.View.{view};
-
 use refusals::Refusal;
-use sessions::receipt::Receipt;
 use sessions::session::Session;
 use std::alloc::Global;
 use std::io;
@@ -18,26 +13,6 @@ use trees::{ChangeableTree, Tree};
 const IMAGE: [u8; 60] =
     *b"\x3c\x00\x00\x00\x01\x00\x0c\x00\x00\x00\x02\x00\x06\x00\x00\x00\x04\x00\x06\x00\x00\x00\x05\x00\x24\x00\x00\x00\x03\x00\x0c\x00\x00\x00\x02\x00\x06\x00\x00\x00\x06\x00\x06\x00\x00\x00\x07\x00\x0c\x00\x00\x00\x02\x00\x06\x00\x00\x00\x08\x00";
 
-// Commits the open click, which is not refused.
-fn commit<T: ChangeableTree>(session: &mut Session<T>, receipt: Receipt)
-    requires { wrong (view T.Meant.meaning session.old) receipt.session ≡ false }
-{
-    match session.commit(receipt) {
-        Ok(()) => {}
-        Err((_receipt, _refused)) => unreachable(),
-    }
-}
-
-// Abandons the open click, which is not refused.
-fn abandon<T: ChangeableTree>(session: &mut Session<T>, receipt: Receipt)
-    requires { wrong (view T.Meant.meaning session.old) receipt.session ≡ false }
-{
-    match session.abandon(receipt) {
-        Ok(()) => {}
-        Err((_receipt, _refused)) => unreachable(),
-    }
-}
-
 // A click that puts one label at a place; where that is refused, the click is abandoned.
 fn click<T: ChangeableTree>(
     session: &mut Session<T>,
@@ -47,11 +22,11 @@ fn click<T: ChangeableTree>(
     let receipt = session.open()?;
     match session.change(&receipt, place, label) {
         Ok(()) => {
-            commit(session, receipt);
+            session.commit(receipt).unwrap();
             Ok(())
         }
         Err(refused) => {
-            abandon(session, receipt);
+            session.abandon(receipt).unwrap();
             Err(refused)
         }
     }
@@ -66,7 +41,7 @@ fn borrowed<T: ChangeableTree, U: ChangeableTree>(
     match session.commit(receipt) {
         Ok(()) => Ok(()),
         Err((receipt, refused)) => {
-            abandon(other, receipt);
+            other.abandon(receipt).unwrap();
             Err(refused)
         }
     }

@@ -8,7 +8,7 @@ ghost use Rattle.sessions.specs.View.{view};
 
 use patterns::{Element, Pattern, Row};
 use refusals::Refusal;
-use sessions::call::{Call, Hand, Note, Slot};
+use sessions::call::{Answer, Call, Hand, Note};
 use sessions::play::play_both;
 use sessions::receipt::Receipt;
 use sessions::session::Session;
@@ -53,20 +53,27 @@ fn twice() -> Option<Pattern> {
 // Prints what is noted of a call.
 fn tell(rt: &impl Print, note: &Note) -> io::Result<()> {
     match note {
-        Note::NoReceipt => println!(rt; "no receipt"),
-        Note::Done => println!(rt; "done"),
-        Note::Opened(name) => println!(rt; "receipt of session {name}"),
-        Note::Number(number) => println!(rt; "number {number}"),
-        Note::Steps(steps) => println!(rt; "{steps} steps"),
-        Note::Wrote(count) => println!(rt; "{count} found"),
-        Note::Found(place, pattern) => println!(rt; "first ({place}, {pattern})"),
-        Note::Bound(found) => {
-            let steps = found.steps;
-            println!(rt; "bound in {steps} steps")
-        }
-        Note::Refused(refusal) => {
+        None => println!(rt; "no receipt"),
+        Some(Ok(answer)) => tell_answer(rt, answer),
+        Some(Err(refusal)) => {
             let (number, layer, byte, steps) = refusal.numbers();
             println!(rt; "refused {number} (layer {layer}, byte {byte}, steps {steps})")
+        }
+    }
+}
+
+// Prints what a call answered.
+fn tell_answer(rt: &impl Print, answer: &Answer) -> io::Result<()> {
+    match answer {
+        Answer::Done => println!(rt; "done"),
+        Answer::Opened(name) => println!(rt; "receipt of session {name}"),
+        Answer::Number(number) => println!(rt; "number {number}"),
+        Answer::Steps(steps) => println!(rt; "{steps} steps"),
+        Answer::Wrote(count) => println!(rt; "{count} found"),
+        Answer::Found(place, pattern) => println!(rt; "first ({place}, {pattern})"),
+        Answer::Bound(found) => {
+            let steps = found.steps;
+            println!(rt; "bound in {steps} steps")
         }
     }
 }
@@ -89,7 +96,7 @@ fn played<T: ChangeableTree + Drop, U: ChangeableTree + Drop>(
     other_tree: U,
     other_foreign: Receipt,
     other_notes: &mut [Note],
-) -> (Slot, Slot)
+) -> (Option<Receipt>, Option<Receipt>)
     ensures first { Left result.0 foreign.session }
     ensures second { Left result.1 other_foreign.session }
 {
@@ -111,79 +118,73 @@ fn played<T: ChangeableTree + Drop, U: ChangeableTree + Drop>(
         other_notes,
     ) {
         Ok((player, other)) => {
-            let (_, slot) = player.end();
-            let (_, other_slot) = other.end();
-            (slot, other_slot)
+            let (_, left) = player.end();
+            let (_, other_left) = other.end();
+            (left, other_left)
         }
-        Err(((_, foreign), (_, other_foreign), _)) => {
-            (Slot::Held(foreign), Slot::Held(other_foreign))
-        }
+        Err(((_, foreign), (_, other_foreign), _)) => { (Some(foreign), Some(other_foreign)) }
     }
 }
 
+// A change of the last label.
+const CHANGE: Call = Call::Change {
+    hand: Hand::Own,
+    place: 9,
+    label: 6,
+};
+
+// The same place with a foreign receipt.
+const FOREIGN_CHANGE: Call = Call::Change {
+    hand: Hand::Foreign,
+    place: 9,
+    label: 4,
+};
+
+// The bindings of the first pattern at the place where it is found.
+const BINDINGS: Call = Call::Bindings {
+    pattern: 0,
+    place: 4,
+};
+
 // Looks for a pattern before and after a change.
 fn first_calls(pattern: Pattern) -> [Call; 10] {
-    let hand = Hand::Own;
     [
         Call::Add(pattern),
         Call::Rebuild,
         Call::FirstFinding,
         Call::Open,
-        Call::Change {
-            hand,
-            place: 9,
-            label: 6,
-        },
+        CHANGE,
         Call::Commit(Hand::Foreign),
-        Call::Commit(hand),
+        Call::Commit(Hand::Own),
         Call::Rebuild,
         Call::Findings,
-        Call::Bindings {
-            pattern: 0,
-            place: 4,
-        },
+        BINDINGS,
     ]
 }
 
 // Comes to the same tree and pattern by other calls, and rebuilds once.
 fn second_calls(pattern: Pattern) -> [Call; 10] {
-    let hand = Hand::Own;
     [
         Call::Open,
-        Call::Change {
-            hand,
-            place: 9,
-            label: 6,
-        },
-        Call::Change {
-            hand: Hand::Foreign,
-            place: 9,
-            label: 4,
-        },
-        Call::Commit(hand),
+        CHANGE,
+        FOREIGN_CHANGE,
+        Call::Commit(Hand::Own),
         Call::Open,
-        Call::Abandon(hand),
+        Call::Abandon(Hand::Own),
         Call::Add(pattern),
         Call::Rebuild,
         Call::Findings,
-        Call::Bindings {
-            pattern: 0,
-            place: 4,
-        },
+        BINDINGS,
     ]
 }
 
 // Abandons the click of a receipt that was lent, if it came back.
-fn take_back<T: ChangeableTree>(session: &mut Session<T>, slot: Slot)
-    requires left { Left slot (view T.Meant.meaning session.old).name }
+fn take_back<T: ChangeableTree>(session: &mut Session<T>, left: Option<Receipt>)
+    requires left { Left left (view T.Meant.meaning session.old).name }
     requires open { is_open (view T.Meant.meaning session.old) ≡ true }
 {
-    match slot {
-        Slot::Empty => {}
-        Slot::Held(receipt) => match session.abandon(receipt) {
-            Ok(()) => {}
-            Err((_receipt, _refused)) => unreachable(),
-        },
+    if let Some(receipt) = left {
+        session.abandon(receipt).unwrap();
     }
 }
 
@@ -201,7 +202,7 @@ fn lent<T: ChangeableTree + Drop, U: ChangeableTree + Drop, V: ChangeableTree, W
     let receipt = lender.open()?;
     match other_lender.open() {
         Ok(other_receipt) => {
-            let (slot, other_slot) = played(
+            let (left, other_left) = played(
                 heap,
                 pattern,
                 tree,
@@ -211,12 +212,12 @@ fn lent<T: ChangeableTree + Drop, U: ChangeableTree + Drop, V: ChangeableTree, W
                 other_receipt,
                 other_notes,
             );
-            take_back(lender, slot);
-            take_back(other_lender, other_slot);
+            take_back(lender, left);
+            take_back(other_lender, other_left);
             Ok(())
         }
         Err(refused) => {
-            take_back(lender, Slot::Held(receipt));
+            take_back(lender, Some(receipt));
             Err(refused)
         }
     }
@@ -236,8 +237,8 @@ where
     V: ChangeableTree + Drop,
     W: ChangeableTree + Drop,
 {
-    let mut notes = [Note::NoReceipt; 10];
-    let mut other_notes = [Note::NoReceipt; 10];
+    let mut notes = [None; 10];
+    let mut other_notes = [None; 10];
     let Some(pattern) = twice() else {
         return println!(rt; "no pattern");
     };

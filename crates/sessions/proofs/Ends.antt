@@ -1,10 +1,13 @@
 -- How the turn of each call ends, by the tests that it passes, and the parts of the state that it leaves.
-use Rattle.std.proofs.Common.{◌≡◌, ℕ, ◌+◌, ◌<◌, ◌≤◌, Bool, true, false, ◌&&◌, eqb, ltb, leb, List, [], ◌∷◌, length, get_or, drop, is_some, None, unwrap_or, sym, refl, ap, ◌∙◌, arith}
+use Rattle.std.proofs.Common.{◌≡◌, ℕ, ◌+◌, ◌<◌, ◌≤◌, Bool, true, false, ◌&&◌, eqb, ltb, leb, List, [], ◌∷◌, length, get_or, drop, is_some, None, unwrap_or, vec_items, sym, refl, ap, ◌∙◌, arith}
 use Rattle.std.proofs.lemmas.Bool.{both_ways, cond-true, cond-false, and_parts, not-false, lt-leb, lt-ltb}
 use Rattle.patterns.specs.declared.row.Element.{Element}
 use Rattle.trees.specs.Forest.{Forest}
 use Rattle.runs.specs.Session.{Change, Journal, Marks, State, refused, Turn, total_changes, is_open, opened, wrong, changing, places}
+use Rattle.sessions.specs.declared.journal.Journal.{Journal as Tables}
 use Rattle.sessions.specs.Held.{journal_of}
+use Rattle.sessions.specs.Journals.{clicks_of}
+use Rattle.sessions.proofs.Tables.{length_held}
 
 -- states whose parts are the same
 pub same_state : {n n' : ℕ} {m m' : Forest} {ps ps' : List (List Element)} {j j' : Journal} {k k' : Marks} → n ≡ n' → m ≡ m' → ps ≡ ps' → j ≡ j' → k ≡ k' → ◌≡◌ {A = State} (record { name = n; tree = m; patterns = ps; journal = j; look = k }) (record { name = n'; tree = m'; patterns = ps'; journal = j'; look = k' })
@@ -18,6 +21,10 @@ open_is false gs = refl
 -- a receipt that is not wrong
 pub right_open : (s : State) (n : ℕ) → wrong s n ≡ false → is_open s ≡ true
 right_open s n e = (and_parts (is_open s) (eqb n s.name) (not-false (is_open s && eqb n s.name) e)).0
+
+-- an open click stands
+pub some_click : (j : Tables) → j.pending ≡ true → 0 < length (clicks_of j)
+some_click j b = omega (arith, j.begun b, j.clicks.ok.0, length_held (vec_items j.clicks) (vec_items j.changes))
 
 all_of : (gs : List (List Change)) → length (get_or gs 0 []) + total_changes (drop 1 gs) ≡ total_changes gs
 all_of [] = refl

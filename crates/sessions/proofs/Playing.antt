@@ -1,5 +1,5 @@
 -- What is played is the run of the calls that are made, and these add well-formed patterns alone.
-use Rattle.std.proofs.Common.{◌≡◌, ℕ, zero, suc, ◌⊎◌, List, [], ◌∷◌, ◌++◌, get_or, Some, None, Option, sym, refl, ap, ◌∙◌, subst, inl, inr, ⊎_elim}
+use Rattle.std.proofs.Common.{◌≡◌, ℕ, zero, suc, ◌⊎◌, List, [], ◌∷◌, ◌++◌, get_or, Some, None, Option, Ok, Err, Result, sym, refl, ap, ◌∙◌, subst, inl, inr, ⊎_elim}
 use mathlib.Core.List.{Memᴰ}
 use Rattle.patterns.specs.declared.row.Element.{Element}
 use Rattle.patterns.specs.Elements.{WellFormed}
@@ -9,25 +9,26 @@ use Rattle.sessions.specs.declared.call.Hand.TheVariants.{Own, Foreign}
 use Rattle.sessions.specs.declared.call.Hands.{Hands}
 use Rattle.sessions.specs.declared.call.Call.{Call as Asked}
 use Rattle.sessions.specs.declared.call.Call.TheVariants.{Open, Change, Commit, Abandon, Undo, Settle, Add, Rebuild, Findings, FirstFinding, Bindings}
-use Rattle.sessions.specs.declared.call.Note.{Note}
-use Rattle.sessions.specs.declared.call.Note.TheVariants.{NoReceipt, Done, Opened, Number, Steps, Wrote, Found, Bound, Refused}
+use Rattle.refusals.specs.declared.Refusal.{Refusal}
+use Rattle.sessions.specs.declared.call.Answer.{Answer as Told}
+use Rattle.sessions.specs.declared.call.Answer.TheVariants.{Done, Opened, Number, Steps, Wrote, Found, Bound}
 use Rattle.runs.specs.Session.{State, Call, change, commit, abandon, add, Answer, done, receipt, number, steps, wrote, found, bound, refused, making, turn}
 use Rattle.runs.specs.Log.{run}
 use Rattle.runs.specs.Runs.{Reached}
 use Rattle.runs.proofs.Every.{Formed}
-use Rattle.sessions.specs.Plays.{Table, in_hand, with_receipt, made_of, played_by, note_answer, stands, one_made, made, noted, playable, Noted, Left, left_of, next_table, first_table, table_of, slot_name}
+use Rattle.sessions.specs.Plays.{Table, in_hand, with_receipt, made_of, played_by, note_answer, stands, one_made, made, noted, playable, Noted, Left, left_of, next_table, first_table, table_of, receipt_name}
 
 -- a note tells an answer without its slice
-pub in_short : (out : List (ℕ × ℕ)) (x : Note) → note_answer [] x ≡ noted (note_answer out x)
-in_short out NoReceipt = refl
-in_short out Done = refl
-in_short out (Opened n) = refl
-in_short out (Number n) = refl
-in_short out (Steps n) = refl
-in_short out (Wrote n) = refl
-in_short out (Found i j) = refl
-in_short out (Bound a) = refl
-in_short out (Refused e) = refl
+pub in_short : (out : List (ℕ × ℕ)) (x : Option (Result Told Refusal)) → note_answer [] x ≡ noted (note_answer out x)
+in_short out None = refl
+in_short out (Some (Ok Done)) = refl
+in_short out (Some (Ok (Opened n))) = refl
+in_short out (Some (Ok (Number n))) = refl
+in_short out (Some (Ok (Steps n))) = refl
+in_short out (Some (Ok (Wrote n))) = refl
+in_short out (Some (Ok (Found i j))) = refl
+in_short out (Some (Ok (Bound a))) = refl
+in_short out (Some (Err e)) = refl
 
 run_append : (s : State) (xs ys : List Call) → run s (xs ++ ys) ≡ run (run s xs) ys
 run_append s [] ys = refl
@@ -83,15 +84,15 @@ made_patterned s t cs (suc n) p i = ⊎_elim
     (one_formed (made_of (stands s t cs n).table (get_or cs n Open)) (made_formed (stands s t cs n).table (get_or cs n Open)) p)
     (either (add p) (made s t cs n) (one_made (made_of (stands s t cs n).table (get_or cs n Open))) i)
 
--- what is played on a session that begins as a making is reached
-pub reached_from : (m : Forest) (a : ℕ) (t : Table) (cs : List Asked) (ns : List Note) {v w : State} {u : Table} → Law m → v ≡ making m a → u ≡ t → w ≡ (stands v u cs (playable cs ns)).state → Reached m a (made (making m a) t cs (playable cs ns)) w
+-- what is played on a player whose session begins as a making, and which holds a foreign receipt alone, is reached
+pub reached_from : (m : Forest) (a : ℕ) (t : Table) (cs : List Asked) (ns : List (Option (Result Told Refusal))) {v w : State} {u : Table} → Law m → v ≡ making m a → u ≡ t → w ≡ (stands v u cs (playable cs ns)).state → Reached m a (made (making m a) t cs (playable cs ns)) w
 reached_from m a t cs ns l e f h =
     let n : ℕ = playable cs ns in
     record { lawful = l; patterned = made_patterned (making m a) t cs n; by_calls = made_run (making m a) t cs n ∙ sym (h ∙ (λ j. (stands (e j) (f j) cs n).state)) }
 
 -- and it is noted as from the making
-pub noted_from : (m : Forest) (a : ℕ) (t : Table) (cs : List Asked) (ns os : List Note) (left : Table) {v : State} {u : Table} → v ≡ making m a → u ≡ t → Noted v u cs ns os left → Noted (making m a) t cs ns os left
-noted_from m a t cs ns os left {v} e f h = subst (λ (x : State). Noted x t cs ns os left) e (subst (λ (y : Table). Noted v y cs ns os left) f h)
+pub noted_from : {s v : State} {t u : Table} {cs : List Asked} {ns os : List (Option (Result Told Refusal))} {left : Table} → v ≡ s → u ≡ t → Noted v u cs ns os left → Noted s t cs ns os left
+noted_from {s} {v} {t} {u} {cs} {ns} {os} {left} e f h = subst (λ (x : State). Noted x t cs ns os left) e (subst (λ (y : Table). Noted v y cs ns os left) f h)
 
 -- what is left of a receipt after an answer
 left_or_none : (a : Answer) (o : Option ℕ) → (left_of a o ≡ None) ⊎ (left_of a o ≡ o)
@@ -134,5 +135,5 @@ foreign_stays s t cs zero = inr refl
 foreign_stays s t cs (suc n) = then_left (stands s t cs (suc n)).table.foreign (stands s t cs n).table.foreign t.foreign (foreign_played (stands s t cs n).state (stands s t cs n).table (get_or cs n Open) (made_of (stands s t cs n).table (get_or cs n Open))) (foreign_stays s t cs n)
 
 -- what is left of the foreign receipt of a player
-pub foreign_left : (m : Forest) (a k : ℕ) (o : List (ℕ × ℕ)) (cs : List Asked) (ns os : List Note) (h : Hands) (p : List (ℕ × ℕ)) → Noted (making m a) (first_table k o) cs ns os (table_of h p) → Left h.foreign k
-foreign_left m a k o cs ns os h p e = then_left (slot_name h.foreign) (stands (making m a) (first_table k o) cs (playable cs ns)).table.foreign (Some k) (inr (ap (λ (t : Table). t.foreign) e.table)) (foreign_stays (making m a) (first_table k o) cs (playable cs ns))
+pub foreign_left : (m : Forest) (a k : ℕ) (o : List (ℕ × ℕ)) (cs : List Asked) (ns : List (Option (Result Told Refusal))) (h : Hands) (p : List (ℕ × ℕ)) → table_of h p ≡ (stands (making m a) (first_table k o) cs (playable cs ns)).table → Left h.foreign k
+foreign_left m a k o cs ns h p e = then_left (receipt_name h.foreign) (stands (making m a) (first_table k o) cs (playable cs ns)).table.foreign (Some k) (inr (ap (λ (t : Table). t.foreign) e)) (foreign_stays (making m a) (first_table k o) cs (playable cs ns))

@@ -1,9 +1,14 @@
 -- Findings counted, written one by one, and found by a scan.
-use Rattle.std.proofs.Common.{◌≡◌, ℕ, zero, suc, ◌+◌, ◌*◌, ◌<◌, ◌≤◌, true, false, cond, List, [], ◌∷◌, ◌++◌, length, get_or, take, drop, set, Some, None, sym, refl, ap, ◌∙◌, ⊎_elim, add-one, arith, length-append, length-take}
+use Rattle.std.proofs.Common.{◌≡◌, ℕ, zero, suc, ◌+◌, ◌*◌, ◌<◌, ◌≤◌, true, false, cond, List, [], ◌∷◌, ◌++◌, length, get_or, take, drop, set, Some, None, Option, sym, refl, ap, ◌∙◌, ⊎_elim, add-one, arith, length-append, length-take}
 use Rattle.std.proofs.lemmas.Bool.{cases_lt, cases_Bool, cond-true, cond-false}
 use Rattle.std.proofs.lemmas.List.{set_at, drop_more, append_assoc, take_at, drop-drop, drop_at}
-use Rattle.runs.specs.Session.{State, Question, found, refused, is_open, mark, marked_at, marked, all_found, finding_first, answering, asking}
+use Rattle.std.specs.Option.{ok_or}
+use Rattle.refusals.specs.Numbers.{refused as refusal_of}
+use Rattle.refusals.specs.declared.Cause.TheVariants.{NoMatch}
+use Rattle.refusals.specs.declared.Layer.TheVariants.{Session as SessionLayer}
+use Rattle.runs.specs.Session.{State, Question, is_open, mark, marked_at, marked, all_found, finding_first, answering, asking}
 use Rattle.sessions.specs.Firsts.{NoneBelow, NoPlaceBelow, IsFirst, First}
+use Rattle.sessions.specs.View.{found_answer}
 
 -- a question that is answered
 pub asked : (s : State) (q : Question) → is_open s ≡ false → s.look.stale ≡ false → answering s q ≡ asking s q
@@ -48,11 +53,10 @@ hit s i j (suc n) b h = ⊎_elim
     begins_behind (i, j) (marked s n) (marked_at s n (length s.patterns)) (none s n (λ k m. b.lowest k (omega arith))) (record { rest = here.rest; is = ap (λ k. marked_at s k (length s.patterns)) q ∙ here.is }))
     (cases_lt i n)
 
-pub first_none : (s : State) → First s None → refused 18 6 0 0 ≡ finding_first (all_found s)
-first_none s h = sym (ap finding_first (none s (length s.look.marks) h))
-
-pub first_some : (s : State) (f : ℕ × ℕ) → First s (Some f) → found f.0 f.1 ≡ finding_first (all_found s)
-first_some s f h = sym (ap finding_first (hit s f.0 f.1 (length s.look.marks) h h.place).is)
+-- what a scan finds is what a question for the first finding is told
+pub first_told : (s : State) (o : Option (ℕ × ℕ)) → First s o → found_answer (ok_or o (refusal_of NoMatch SessionLayer 0 0)) ≡ finding_first (all_found s)
+first_told s None h = sym (ap finding_first (none s (length s.look.marks) h))
+first_told s (Some f) h = sym (ap finding_first (hit s f.0 f.1 (length s.look.marks) h h.place).is)
 
 -- one pattern more at a place
 pub marked_more : (s : State) (i n : ℕ) → mark s i n ≡ true → marked_at s i (n + 1) ≡ marked_at s i n ++ ((i, n) ∷ [])

@@ -1,10 +1,11 @@
 -- The tables of a journal, where a click begins, a change is noted or taken back, and a click is forgotten.
-use Rattle.std.proofs.Common.{◌≡◌, ℕ, zero, suc, ◌+◌, ◌<◌, ◌≤◌, true, ltb, List, [], ◌∷◌, ◌++◌, length, get_or, take, drop, set, sum_by, sym, refl, ap, ◌∙◌, add-one, arith, length-drop, length-take}
+use Rattle.std.proofs.Common.{◌≡◌, ℕ, zero, suc, ◌+◌, ◌-◌, ◌<◌, ◌≤◌, true, ltb, List, [], ◌∷◌, ◌++◌, length, get_or, take, drop, set, vec_items, vec_len, sum_by, sym, refl, ap, ◌∙◌, add-one, arith, length-drop, length-take}
 use Rattle.std.proofs.lemmas.List.{take_more, take_all, set_split, drop_all, length_push}
 use Rattle.std.proofs.lemmas.List.Sums.{sum_by_push, sum_by-cons}
 use Rattle.std.proofs.lemmas.Bool.{and_parts, and_from, lt-ltb, ltb-true}
 use Rattle.sessions.specs.declared.entry.Click.{Click}
 use Rattle.sessions.specs.declared.entry.Replaced.{Replaced}
+use Rattle.sessions.specs.declared.journal.Journal.{Journal as Tables}
 use Rattle.runs.specs.Session.{Change, total_changes}
 use Rattle.sessions.specs.Held.{change_of, newest, counts, dealt, held, all_labels}
 
@@ -34,6 +35,10 @@ length_dealt (n ∷ ns) cs = ap suc (length_dealt ns (drop n cs))
 
 pub length_held : (ks : List Click) (rs : List Replaced) → length (held ks rs) ≡ length ks
 length_held ks rs = length_dealt (counts ks) (newest rs) ∙ length_counts ks
+
+-- there is a last click
+pub one_last : (j : Tables) → 0 < length (held (vec_items j.clicks) (vec_items j.changes)) → length (vec_items j.clicks) ≡ vec_len j.clicks - 1 + 1
+one_last j h = omega (arith, length_held (vec_items j.clicks) (vec_items j.changes), j.clicks.ok.0)
 
 -- the sum of some counts
 abbrev sum : List ℕ → ℕ

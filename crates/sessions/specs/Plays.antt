@@ -1,15 +1,15 @@
 -- Calls as a player makes them: with the receipts that it holds, and with one slice for findings.
-use Rattle.std.specs.Prelude.{◌≡◌, ℕ, zero, suc, ◌<◌, ◌≤◌, min, ◌⊎◌, List, [], ◌∷◌, ◌++◌, length, Some, None, Option, slice_index_or}
+use Rattle.std.specs.Prelude.{◌≡◌, ℕ, zero, suc, ◌<◌, ◌≤◌, min, ◌⊎◌, List, [], ◌∷◌, ◌++◌, length, Some, None, Option, Ok, Err, Result, slice_index_or}
 use Rattle.patterns.specs.Elements.{elements_of}
 use Rattle.sessions.specs.declared.call.Hand.{Hand}
 use Rattle.sessions.specs.declared.call.Hand.TheVariants.{Own, Foreign}
-use Rattle.sessions.specs.declared.call.Slot.{Slot}
-use Rattle.sessions.specs.declared.call.Slot.TheVariants.{Empty, Held}
 use Rattle.sessions.specs.declared.call.Hands.{Hands}
 use Rattle.sessions.specs.declared.call.Call.{Call as Asked}
 use Rattle.sessions.specs.declared.call.Call.TheVariants.{Open, Change, Commit, Abandon, Undo, Settle, Add, Rebuild, Findings, FirstFinding, Bindings}
-use Rattle.sessions.specs.declared.call.Note.{Note}
-use Rattle.sessions.specs.declared.call.Note.TheVariants.{NoReceipt, Done, Opened, Number, Steps, Wrote, Found, Bound, Refused}
+use Rattle.sessions.specs.declared.call.Answer.{Answer as Told}
+use Rattle.sessions.specs.declared.call.Answer.TheVariants.{Done, Opened, Number, Steps, Wrote, Found, Bound}
+use Rattle.sessions.specs.declared.receipt.Receipt.{Receipt}
+use Rattle.refusals.specs.declared.Refusal.{Refusal}
 use Rattle.runs.specs.Session.{State, Call, open_click, change, commit, abandon, undo, settle, add, rebuild, ask, findings, first_finding, bindings, Answer, done, receipt, number, steps, wrote, found, bound, refused, turn}
 use Rattle.sessions.specs.View.{refusal_answer}
 
@@ -19,14 +19,14 @@ pub record Table : Type 0 where
   pub foreign : Option ℕ
   pub out : List (ℕ × ℕ)
 
--- The name on a receipt.
-abbrev pub slot_name : Slot → Option ℕ
-slot_name Empty = None
-slot_name (Held k) = Some k.session
+-- The name on a receipt, if there is one.
+abbrev pub receipt_name : Option Receipt → Option ℕ
+receipt_name None = None
+receipt_name (Some k) = Some k.session
 
 -- What a player has, by its hands and its slice.
 abbrev pub table_of : Hands → List (ℕ × ℕ) → Table
-table_of h out = record { own = slot_name h.own; foreign = slot_name h.foreign; out = out }
+table_of h out = record { own = receipt_name h.own; foreign = receipt_name h.foreign; out = out }
 
 -- The name on the receipt in a hand.
 abbrev pub in_hand : Hand → Table → Option ℕ
@@ -117,17 +117,21 @@ played_by s t c (Some k) = record { state = (turn s k).0; table = next_table t c
 abbrev pub played_one : State → Table → Asked → PlayedOne
 played_one s t c = played_by s t c (made_of t c)
 
+-- What a call told, as an answer, by what the slice holds.
+abbrev pub told_answer : List (ℕ × ℕ) → Told → Answer
+told_answer out Done = done
+told_answer out (Opened n) = receipt n
+told_answer out (Number n) = number n
+told_answer out (Steps n) = steps n
+told_answer out (Wrote n) = wrote n out
+told_answer out (Found i j) = found i j
+told_answer out (Bound a) = bound a.places a.steps
+
 -- A note as an answer, by what the slice holds.
-abbrev pub note_answer : List (ℕ × ℕ) → Note → Option Answer
-note_answer out NoReceipt = None
-note_answer out Done = Some done
-note_answer out (Opened n) = Some (receipt n)
-note_answer out (Number n) = Some (number n)
-note_answer out (Steps n) = Some (steps n)
-note_answer out (Wrote n) = Some (wrote n out)
-note_answer out (Found i j) = Some (found i j)
-note_answer out (Bound a) = Some (bound a.places a.steps)
-note_answer out (Refused e) = Some (refusal_answer e)
+abbrev pub note_answer : List (ℕ × ℕ) → Option (Result Told Refusal) → Option Answer
+note_answer out None = None
+note_answer out (Some (Ok a)) = Some (told_answer out a)
+note_answer out (Some (Err e)) = Some (refusal_answer e)
 
 -- A session and its player after the first n of some calls, with the answer to the last.
 abbrev pub stands : State → Table → List Asked → ℕ → PlayedOne
@@ -160,37 +164,19 @@ abbrev pub noted : Option Answer → Option Answer
 noted None = None
 noted (Some a) = Some (in_brief a)
 
--- A call that hands no receipt over.
-abbrev pub told : State → Call → State × Option Answer
-told s k = ((turn s k).0, Some (turn s k).1)
-
--- A change, with the receipt of a slot if there is one.
-abbrev pub changed_one : State → Option ℕ → ℕ → ℕ → State × Option Answer
-changed_one s None p l = (s, None)
-changed_one s (Some n) p l = told s (change n p l)
-
--- A call that spends the receipt of a slot, if there is one.
-abbrev pub spent_one : State → Option ℕ → (ℕ → Call) → State × Option ℕ × Option Answer
-spent_one s None f = (s, None, None)
-spent_one s (Some n) f = ((turn s (f n)).0, left_of (turn s (f n)).1 (Some n), Some (turn s (f n)).1)
-
--- Findings, written over a slice.
-abbrev pub wrote_one : State → List (ℕ × ℕ) → State × List (ℕ × ℕ) × Option Answer
-wrote_one s out = (s, written_by (turn s (ask (findings out))).1 out, Some (turn s (ask (findings out))).1)
-
 -- What a player has at first: a foreign receipt with this name, and its slice.
 abbrev pub first_table : ℕ → List (ℕ × ℕ) → Table
 first_table n out = record { own = None; foreign = Some n; out = out }
 
 -- How many calls are played: as many as there is room for notes of.
-abbrev pub playable : List Asked → List Note → ℕ
+abbrev pub playable : List Asked → List (Option (Result Told Refusal)) → ℕ
 playable cs ns = min (length cs) (length ns)
 
 -- Calls were played on a session that a state began, with what the player had: it has now what they left, each answer is noted in its order, and the other notes stay.
-pub record Noted (s : State) (t : Table) (cs : List Asked) (before after : List Note) (left : Table) : Type 0 where
+pub record Noted (s : State) (t : Table) (cs : List Asked) (before after : List (Option (Result Told Refusal))) (left : Table) : Type 0 where
   pub table : left ≡ (stands s t cs (playable cs before)).table
-  pub answers : (k : ℕ) → k < playable cs before → note_answer [] (slice_index_or after k NoReceipt) ≡ noted (stands s t cs (suc k)).answer
-  pub rest : (k : ℕ) → playable cs before ≤ k → slice_index_or after k NoReceipt ≡ slice_index_or before k NoReceipt
+  pub answers : (k : ℕ) → k < playable cs before → note_answer [] (slice_index_or after k None) ≡ noted (stands s t cs (suc k)).answer
+  pub rest : (k : ℕ) → playable cs before ≤ k → slice_index_or after k None ≡ slice_index_or before k None
 
 -- A session at its end: the open click is abandoned, if the player holds its receipt.
 abbrev pub at_end : State → Option ℕ → State
@@ -198,5 +184,5 @@ at_end s None = s
 at_end s (Some n) = (turn s (abandon n)).0
 
 -- Of a receipt that was handed in nothing is left, or it is still there.
-abbrev pub Left : Slot → ℕ → Type 0
-Left k n = (slot_name k ≡ None) ⊎ (slot_name k ≡ Some n)
+abbrev pub Left : Option Receipt → ℕ → Type 0
+Left k n = (receipt_name k ≡ None) ⊎ (receipt_name k ≡ Some n)

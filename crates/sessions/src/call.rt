@@ -5,7 +5,7 @@ use patterns::Pattern;
 use refusals::Refusal;
 
 /// Which receipt a call hands over: that of the session's click, or a foreign one.
-#[derive(Clone, Copy)]
+#[derive(Clone, Copy, PartialEq, Eq, Debug)]
 pub enum Hand {
     Own,
     Foreign,
@@ -34,10 +34,9 @@ pub enum Call {
     },
 }
 
-/// What is noted of a call: its answer, or that there was no receipt to hand over.
+/// What a call answers if it is not refused.
 #[derive(Clone, Copy)]
-pub enum Note {
-    NoReceipt,
+pub enum Answer {
     Done,
     Opened(u32),
     Number(usize),
@@ -45,17 +44,13 @@ pub enum Note {
     Wrote(usize),
     Found(usize, usize),
     Bound(Match),
-    Refused(Refusal),
 }
 
-/// A receipt, or none.
-pub enum Slot {
-    Empty,
-    Held(Receipt),
-}
+/// What is noted of a call: its answer or its refusal, or nothing if there was no receipt to hand over.
+pub type Note = Option<Result<Answer, Refusal>>;
 
 /// The receipts that a player holds.
 pub struct Hands {
-    pub own: Slot,
-    pub foreign: Slot,
+    pub own: Option<Receipt>,
+    pub foreign: Option<Receipt>,
 }

@@ -67,8 +67,7 @@ impl Journal {
         ensures held { clicks_of self.new ≡ (change_of replaced ∷ slice_index_or (clicks_of self.old) 0 []) ∷ drop 1 (clicks_of self.old) }
         ensures opened { self.new.pending ≡ self.old.pending }
     {
-        let last = self.clicks.len() - 1;
-        let click = &mut self.clicks[last];
+        let click = self.clicks.last_mut().unwrap();
         click.changes += 1;
         self.changes.push_reserved(replaced);
     }
@@ -80,12 +79,8 @@ impl Journal {
         ensures same { MatchOption result (self.new ≡ self.old) (λ _. self.new.pending ≡ self.old.pending) }
         ensures some { 0 < length (clicks_of self.new) }
     {
-        let last = self.clicks.len() - 1;
-        if self.clicks[last].changes == 0 {
-            return None;
-        }
-        let click = &mut self.clicks[last];
-        click.changes -= 1;
+        let click = self.clicks.last_mut()?;
+        click.changes = click.changes.checked_sub(1)?;
         self.changes.pop()
     }
 

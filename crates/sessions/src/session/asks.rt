@@ -1,16 +1,24 @@
 // Questions: the findings of the last rebuild, the first of them, and the bindings of a pattern at a place.
-ghost use Rattle.std.specs.Prelude.{◌≡◌, ◌+◌, ◌<◌, ◌≤◌, ◌++◌, length, take, drop, OnErr};
-ghost use Rattle.runs.specs.Session.{turn, ask, findings as all_findings, first_finding, bindings as to_bind, places as places_of, marked_at, all_found};
+ghost use Rattle.std.specs.Prelude.{◌≡◌, ◌+◌, ◌<◌, ◌≤◌, ◌++◌, length, take, drop, false, MatchResult, OnErr};
+ghost use Rattle.runs.specs.Session.{Question, turn, ask, asking, is_open, findings as all_findings, first_finding, bindings as to_bind, places as places_of, marked_at, all_found};
 ghost use Rattle.sessions.specs.Firsts.{First};
-ghost use Rattle.sessions.specs.View.{view, wrote_answer, found_answer, bound_answer};
+ghost use Rattle.sessions.specs.View.{view, refusal_answer, wrote_answer, found_answer, bound_answer};
 
 use crate::session::Session;
-use crate::session::makes::refusal;
+use crate::session::makes::{refusal, refuse_if};
 use matching::{Match, match_at};
 use refusals::{Cause, Refusal};
 use trees::ChangeableTree;
 
 impl<T: ChangeableTree> Session<T> {
+    // Refuses each question while a click is open, and while the marks are stale.
+    fn current(&self) -> Result<(), Refusal>
+        ensures { MatchResult result (λ _. (is_open (view T.Meant.meaning self.now) ≡ false) × (self.now.marks.stale ≡ false)) (λ e. (q : Question) → refusal_answer e ≡ asking (view T.Meant.meaning self.now) q) }
+    {
+        self.closed()?;
+        refuse_if(self.marks.is_stale(), Cause::Stale)
+    }
+
     // The first mark: the lowest place, and there the lowest pattern.
     fn first_mark(&self) -> Option<(usize, usize)>
         ensures { First (view T.Meant.meaning self.now) result }
@@ -91,16 +99,9 @@ impl<T: ChangeableTree> Session<T> {
         ensures turns { (view T.Meant.meaning self.now, wrote_answer out.new result) ≡ turn (view T.Meant.meaning self.now) (ask (all_findings out.old)) }
         ensures same { OnErr result (out.new ≡ out.old) }
     {
-        if self.is_open() {
-            return Err(refusal(Cause::ClickOpen));
-        }
-        if self.marks.is_stale() {
-            return Err(refusal(Cause::Stale));
-        }
+        self.current()?;
         let count = self.count_marks();
-        if count > out.len() {
-            return Err(refusal(Cause::NoRoom));
-        }
+        refuse_if(count > out.len(), Cause::NoRoom)?;
         self.write_marks(out);
         Ok(count)
     }
@@ -109,31 +110,16 @@ impl<T: ChangeableTree> Session<T> {
     pub fn first_finding(&self) -> Result<(usize, usize), Refusal>
         ensures { (view T.Meant.meaning self.now, found_answer result) ≡ turn (view T.Meant.meaning self.now) (ask first_finding) }
     {
-        if self.is_open() {
-            return Err(refusal(Cause::ClickOpen));
-        }
-        if self.marks.is_stale() {
-            return Err(refusal(Cause::Stale));
-        }
-        match self.first_mark() {
-            Some(finding) => Ok(finding),
-            None => Err(refusal(Cause::NoMatch)),
-        }
+        self.current()?;
+        self.first_mark().ok_or(refusal(Cause::NoMatch))
     }
 
     /// The bindings of a pattern at a place, and the steps that the match took.
     pub fn bindings(&self, pattern: usize, place: usize) -> Result<Match, Refusal>
         ensures { (view T.Meant.meaning self.now, bound_answer result) ≡ turn (view T.Meant.meaning self.now) (ask (to_bind pattern place)) }
     {
-        if self.is_open() {
-            return Err(refusal(Cause::ClickOpen));
-        }
-        if self.marks.is_stale() {
-            return Err(refusal(Cause::Stale));
-        }
-        if pattern >= self.shelf.count() {
-            return Err(refusal(Cause::NoSuchPattern));
-        }
+        self.current()?;
+        refuse_if(pattern >= self.shelf.count(), Cause::NoSuchPattern)?;
         match_at(&self.tree, &self.shelf.pattern(pattern), place)
     }
 }

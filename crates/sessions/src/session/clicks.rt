@@ -1,6 +1,8 @@
 // Clicks: opened, changed, committed, abandoned, undone and settled; and patterns, added.
-ghost use Rattle.std.specs.Prelude.{◌≡◌, ◌<◌, [], ◌∷◌, length, drop, IfErr, None as Nothing, OnErr, slice_index_or};
+ghost use Rattle.std.specs.Prelude.{◌≡◌, ◌<◌, [], ◌∷◌, length, drop, true, false, IfErr, MatchResult, None as Nothing, OnErr, slice_index_or};
 ghost use Rattle.patterns.specs.Elements.{elements_of};
+ghost use Rattle.refusals.specs.Numbers.{refused as refusal_of};
+ghost use Rattle.refusals.specs.declared.Layer.TheVariants.{Session as SessionLayer};
 ghost use Rattle.runs.specs.Session.{turn, open_click, change as to_change, commit as to_commit, abandon as to_abandon, undo as to_undo, settle as to_settle, add as to_add, is_open, wrong, noting, putting};
 ghost use Rattle.sessions.specs.Journals.{clicks_of};
 ghost use Rattle.sessions.specs.View.{view, receipt_answer, done_answer, spent_answer, number_answer};
@@ -9,7 +11,7 @@ use crate::entry::Replaced;
 use crate::journal::{CHANGES, CLICKS};
 use crate::receipt::Receipt;
 use crate::session::Session;
-use crate::session::makes::refusal;
+use crate::session::makes::refuse_if;
 use crate::shelf::PATTERNS;
 use patterns::Pattern;
 use refusals::{Cause, Refusal};
@@ -23,11 +25,30 @@ impl<T: ChangeableTree> Session<T> {
         self.journal.is_open()
     }
 
-    // Whether a receipt is not that of the open click.
-    fn is_wrong(&self, receipt: &Receipt) -> bool
-        ensures { result ≡ wrong (view T.Meant.meaning self.now) receipt.now.session }
+    // Refuses while a click is open.
+    pub(crate) fn closed(&self) -> Result<(), Refusal>
+        ensures { MatchResult result (λ _. is_open (view T.Meant.meaning self.now) ≡ false) (λ e. (is_open (view T.Meant.meaning self.now) ≡ true) × (e ≡ refusal_of Cause.ClickOpen SessionLayer 0 0)) }
     {
-        !(self.is_open() && receipt.session == self.name)
+        refuse_if(self.is_open(), Cause::ClickOpen)
+    }
+
+    // Refuses a receipt that is not that of the open click.
+    fn admits(&self, receipt: &Receipt) -> Result<(), Refusal>
+        ensures { MatchResult result (λ _. wrong (view T.Meant.meaning self.now) receipt.now.session ≡ false) (λ e. (wrong (view T.Meant.meaning self.now) receipt.now.session ≡ true) × (e ≡ refusal_of Cause.WrongClick SessionLayer 0 0)) }
+    {
+        let right = self.is_open() && receipt.session == self.name;
+        refuse_if(!right, Cause::WrongClick)
+    }
+
+    // Spends the receipt of the open click; another one comes back.
+    fn spend(&self, receipt: Receipt) -> Result<(), (Receipt, Refusal)>
+        ensures { MatchResult result (λ _. wrong (view T.Meant.meaning self.now) receipt.session ≡ false) (λ e. (wrong (view T.Meant.meaning self.now) receipt.session ≡ true) × (e.0 ≡ receipt) × (e.1 ≡ refusal_of Cause.WrongClick SessionLayer 0 0)) }
+    {
+        if let Err(refused) = self.admits(&receipt) {
+            return Err((receipt, refused));
+        }
+        let Receipt { session: _ } = receipt;
+        Ok(())
     }
 
     // Puts the labels of the last click back, the last change first, and forgets the click.
@@ -48,12 +69,8 @@ impl<T: ChangeableTree> Session<T> {
         ensures turns { (view T.Meant.meaning self.new, receipt_answer result) ≡ turn (view T.Meant.meaning self.old) open_click }
         ensures same { OnErr result (self.new ≡ self.old) }
     {
-        if self.is_open() {
-            return Err(refusal(Cause::ClickOpen));
-        }
-        if self.journal.clicks() >= CLICKS {
-            return Err(refusal(Cause::JournalFull));
-        }
+        self.closed()?;
+        refuse_if(self.journal.clicks() >= CLICKS, Cause::JournalFull)?;
         self.journal.begin();
         Ok(Receipt { session: self.name })
     }
@@ -63,21 +80,13 @@ impl<T: ChangeableTree> Session<T> {
         ensures turns { (view T.Meant.meaning self.new, done_answer result) ≡ turn (view T.Meant.meaning self.old) (to_change receipt.now.session place label) }
         ensures same { OnErr result (self.new ≡ self.old) }
     {
-        if self.is_wrong(receipt) {
-            return Err(refusal(Cause::WrongClick));
-        }
+        self.admits(receipt)?;
         let old = self.tree.label(place)?;
-        if self.journal.changes() >= CHANGES {
-            return Err(refusal(Cause::JournalFull));
-        }
-        match self.tree.put(place, label) {
-            Ok(()) => {
-                self.journal.note(Replaced { place, label: old });
-                self.marks.touch(place);
-                Ok(())
-            }
-            Err(refused) => Err(refused),
-        }
+        refuse_if(self.journal.changes() >= CHANGES, Cause::JournalFull)?;
+        self.tree.put(place, label)?;
+        self.journal.note(Replaced { place, label: old });
+        self.marks.touch(place);
+        Ok(())
     }
 
     /// Ends the open click, which can be undone from now on. A refusal gives the receipt back.
@@ -85,10 +94,7 @@ impl<T: ChangeableTree> Session<T> {
         ensures turns { (view T.Meant.meaning self.new, spent_answer result) ≡ turn (view T.Meant.meaning self.old) (to_commit receipt.session) }
         ensures same { IfErr result (λ e. (self.new ≡ self.old) × (e.0 ≡ receipt)) }
     {
-        if self.is_wrong(&receipt) {
-            return Err((receipt, refusal(Cause::WrongClick)));
-        }
-        let Receipt { session: _ } = receipt;
+        self.spend(receipt)?;
         self.journal.keep();
         Ok(())
     }
@@ -98,10 +104,7 @@ impl<T: ChangeableTree> Session<T> {
         ensures turns { (view T.Meant.meaning self.new, spent_answer result) ≡ turn (view T.Meant.meaning self.old) (to_abandon receipt.session) }
         ensures same { IfErr result (λ e. (self.new ≡ self.old) × (e.0 ≡ receipt)) }
     {
-        if self.is_wrong(&receipt) {
-            return Err((receipt, refusal(Cause::WrongClick)));
-        }
-        let Receipt { session: _ } = receipt;
+        self.spend(receipt)?;
         self.put_back();
         Ok(())
     }
@@ -111,12 +114,8 @@ impl<T: ChangeableTree> Session<T> {
         ensures turns { (view T.Meant.meaning self.new, done_answer result) ≡ turn (view T.Meant.meaning self.old) to_undo }
         ensures same { OnErr result (self.new ≡ self.old) }
     {
-        if self.is_open() {
-            return Err(refusal(Cause::ClickOpen));
-        }
-        if self.journal.clicks() == 0 {
-            return Err(refusal(Cause::NothingToUndo));
-        }
+        self.closed()?;
+        refuse_if(self.journal.clicks() == 0, Cause::NothingToUndo)?;
         self.put_back();
         Ok(())
     }
@@ -126,9 +125,7 @@ impl<T: ChangeableTree> Session<T> {
         ensures turns { (view T.Meant.meaning self.new, number_answer result) ≡ turn (view T.Meant.meaning self.old) to_settle }
         ensures same { OnErr result (self.new ≡ self.old) }
     {
-        if self.is_open() {
-            return Err(refusal(Cause::ClickOpen));
-        }
+        self.closed()?;
         let clicks = self.journal.clicks();
         self.journal.clear();
         Ok(clicks)
@@ -139,13 +136,9 @@ impl<T: ChangeableTree> Session<T> {
         ensures turns { (view T.Meant.meaning self.new, number_answer result) ≡ turn (view T.Meant.meaning self.old) (to_add (elements_of pattern.now.row)) }
         ensures same { OnErr result (self.new ≡ self.old) }
     {
-        if self.is_open() {
-            return Err(refusal(Cause::ClickOpen));
-        }
+        self.closed()?;
         let number = self.shelf.count();
-        if number >= PATTERNS {
-            return Err(refusal(Cause::ShelfFull));
-        }
+        refuse_if(number >= PATTERNS, Cause::ShelfFull)?;
         self.shelf.add(pattern);
         self.marks.outdate();
         Ok(number)

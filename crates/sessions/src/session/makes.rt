@@ -1,5 +1,5 @@
 // How a session is made, what it is over, and how it ends.
-ghost use Rattle.std.specs.Prelude.{◌≡◌, ◌≤◌, false, [], IfOk, MatchResult};
+ghost use Rattle.std.specs.Prelude.{◌≡◌, ◌≤◌, true, false, [], IfOk, MatchResult};
 ghost use Rattle.refusals.specs.Numbers.{refused as refusal_of};
 ghost use Rattle.refusals.specs.declared.Layer.TheVariants.{Session as SessionLayer};
 ghost use Rattle.runs.specs.Session.{making, no_marks, refused};
@@ -21,6 +21,13 @@ pub(crate) fn refusal(cause: Cause) -> Refusal
     ensures { result ≡ refusal_of cause SessionLayer 0 0 }
 {
     Refusal::at(cause, Layer::Session, 0)
+}
+
+// Refuses for a cause if a test holds.
+pub(crate) fn refuse_if(test: bool, cause: Cause) -> Result<(), Refusal>
+    ensures { MatchResult result (λ _. test ≡ false) (λ e. (test ≡ true) × (e ≡ refusal_of cause SessionLayer 0 0)) }
+{
+    if test { Err(refusal(cause)) } else { Ok(()) }
 }
 
 // An empty shelf, an empty journal, and no marks.

@@ -4,8 +4,7 @@ ghost use Rattle.runs.specs.Session.{turn, rebuild as to_rebuild};
 ghost use Rattle.sessions.specs.View.{view, steps_answer};
 
 use crate::session::Session;
-use crate::session::makes::refusal;
-use refusals::{Cause, Refusal};
+use refusals::Refusal;
 use trees::ChangeableTree;
 
 impl<T: ChangeableTree> Session<T> {
@@ -15,9 +14,7 @@ impl<T: ChangeableTree> Session<T> {
         ensures turns { (view T.Meant.meaning self.new, steps_answer result) ≡ turn (view T.Meant.meaning self.old) to_rebuild }
         ensures same { OnErr result (self.new ≡ self.old) }
     {
-        if self.is_open() {
-            return Err(refusal(Cause::ClickOpen));
-        }
+        self.closed()?;
         Ok(self.marks.rebuild(&self.tree, &self.shelf))
     }
 }
