@@ -13,5 +13,5 @@ any_tree (Outline t) = outline_tree t
 
 -- It keeps the law of every tree.
 pub any_kept : (t : AnyTree) → Law (any_tree t)
-any_kept (Image t) = image_kept t.sound t.bytes.now t.leaf t.checked t.low
-any_kept (Outline t) = outline_kept t.sound t.records.now t.leaf t.checked t.low
+any_kept (Image t) = image_kept t.leaf t.bytes.now t.checked t.low
+any_kept (Outline t) = outline_kept t.leaf t.records.now t.checked t.low

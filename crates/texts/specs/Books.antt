@@ -5,4 +5,4 @@ use Rattle.labels.specs.declared.book.Book.{Book}
 
 -- The entries of an open book.
 abbrev pub entries_of : Book → List Entry
-entries_of b = entries b.bytes.now
+entries_of b = entries b.index.bytes.now
