@@ -2,7 +2,7 @@
 use Rattle.std.specs.Prelude.{◌≡◌, ℕ, zero, suc, ◌<◌, Bool, true, length, Some, None, Option, is_none, refl}
 use Rattle.std.specs.Option.{ForSome}
 use Rattle.std.proofs.Common.{ap, sym, ◌∙◌, arith}
-use Rattle.trees.specs.Forest.{Forest, Law, label_at, relabel}
+use Rattle.trees.specs.Forest.{Forest, Law, label_at}
 use Rattle.trees.specs.Scan.{leaf, kept}
 
 leaf_labels : (l p : ℕ) → l < 32768 → p < 1 → label_at (leaf l) p < 32768
@@ -32,8 +32,3 @@ length_kept leaf m e = ap length (kept_none leaf m e)
 
 pub sound_kept : (leaf : Option ℕ) (sound : Bool) → leaf ≡ None → is_none leaf ≡ sound → sound ≡ true
 sound_kept leaf sound e f = sym f ∙ ap is_none e
-
--- the leaf takes the label
-pub leaf_put : (l p k : ℕ) → p < length (leaf l) → leaf k ≡ relabel (leaf l) p k
-leaf_put l zero k h = refl
-leaf_put l (suc p) k h = absurd (omega arith)
