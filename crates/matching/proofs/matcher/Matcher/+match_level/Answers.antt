@@ -65,7 +65,7 @@ returns-in_err-bound-in-BindBeforeInner-clause-answer g t c =
     let node : (c.match-ahead.node.label ≡ label_at (g.T.Meant.meaning c.loop-at.self.tree.now) c.loop-at.at) × (c.match-ahead.node.size ≡ size_at (g.T.Meant.meaning c.loop-at.self.tree.now) c.loop-at.at) = search rules in
     let t = turns (g.T.Meant.lawful c.loop-at.self.tree.now) c.loop-at.invariant.so c.loop-at-test.true node.0 node.1 c.in-BindBeforeInner.is c.choose_rule-choice.ensures.rule in
     let r = err_from_is_err_and c.from_residual-in_err-bound-in-BindBeforeInner.result c.from_residual-in_err-bound-in-BindBeforeInner.ensures.1 in
-    ap (λ x. ended x c.bind_variable-bound.new.self.found) r.1 ∙ differs_tree c.in-BindBeforeInner.variable c.bind_variable-bound.new.self.found c.in_err-bound-in-BindBeforeInner.ensures.answer t
+    ap (λ x. ended x c.bind_variable-bound.new.self.found) r.1 ∙ differs_tree c.in-BindBeforeInner.variable c.bind_variable-bound.new.self.found (sym (ap (λ x. ended x c.bind_variable-bound.new.self.found) c.in_err-bound-in-BindBeforeInner.was) ∙ c.bind_variable-bound.ensures.answer) t
 
 pub loop-at-preserved : goal.loop-at-preserved
 loop-at-preserved g t c =
@@ -76,7 +76,7 @@ loop-at-preserved g t c =
       on = omega (arith, c.loop-at.invariant.on);
       tree = c.bind_variable-bound.ensures.tree ∙ c.loop-at.invariant.tree;
       known = subst (λ f. Known f (c.loop-at.at + c.match-ahead.node.size) c.choose_rule-choice.result.next) (sym e) c.choose_rule-choice.ensures.known;
-      so = behind 1 c.loop-at.rest.now (same_tree e (bound_tree c.in-BindBeforeInner.variable c.bind_variable-bound.new.self.found c.bind_variable-bound.ensures.brief c.in_ok-bound-in-BindBeforeInner.ensures.answer t));
+      so = behind 1 c.loop-at.rest.now (same_tree e (bound_tree c.in-BindBeforeInner.variable c.bind_variable-bound.new.self.found c.bind_variable-bound.ensures.brief (sym (ap (λ x. ended x c.bind_variable-bound.new.self.found) c.in_ok-bound-in-BindBeforeInner.was) ∙ c.bind_variable-bound.ensures.answer) t));
     }
 
 pub match_level-requires : goal.match_level-requires
