@@ -56,7 +56,8 @@ impl<'t, T: Tree> Matcher<'t, T> {
                 }
                 Rule::BindBeforeInner { variable } | Rule::BindLast { variable } => {
                     self.found.steps += 1;
-                    self.bind_variable(variable, at, node.size)?; // a tree that differs ends the level
+                    let bound = self.bind_variable(variable, at, node.size);
+                    bound?; // a tree that differs ends the level
                     rest = &rest[1..]; // the variable goes
                     at += node.size;
                     ahead = choice.next;

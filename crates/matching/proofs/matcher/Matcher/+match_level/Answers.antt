@@ -54,29 +54,29 @@ loop-at-preserved-in-BindBeforeLexeme-1 g t c =
       so = behind 2 c.loop-at.rest.now (same_tree e (bound_lexeme c.in-BindBeforeLexeme.variable c.bind_variable.new.self.found c.bind_variable.ensures.brief c.in_ok-bind_variable-in-BindBeforeLexeme.ensures.answer t));
     }
 
-pub bind_variable-requires-in-BindBeforeInner-clause-variable : goal.bind_variable-requires-in-BindBeforeInner-clause-variable
-bind_variable-requires-in-BindBeforeInner-clause-variable g t c =
+pub bind_variable-bound-requires-clause-variable : goal.bind_variable-bound-requires-clause-variable
+bind_variable-bound-requires-clause-variable g t c =
     let node : (c.match-ahead.node.label ≡ label_at (g.T.Meant.meaning c.loop-at.self.tree.now) c.loop-at.at) × (c.match-ahead.node.size ≡ size_at (g.T.Meant.meaning c.loop-at.self.tree.now) c.loop-at.at) = search rules in
     let t = turns (g.T.Meant.lawful c.loop-at.self.tree.now) c.loop-at.invariant.so c.loop-at-test.true node.0 node.1 c.in-BindBeforeInner.is c.choose_rule-choice.ensures.rule in
     ⊎_elim (λ i. let s = suits i in variable_small c.loop-at.rest.now c.in-BindBeforeInner.variable c.loop-at.invariant.so.level s.0 s.1) (λ i. let s = suits i in variable_small c.loop-at.rest.now c.in-BindBeforeInner.variable c.loop-at.invariant.so.level s.0 s.1) t
 
-pub returns-in_err-bind_variable-in-BindBeforeInner-clause-answer : goal.returns-in_err-bind_variable-in-BindBeforeInner-clause-answer
-returns-in_err-bind_variable-in-BindBeforeInner-clause-answer g t c =
+pub returns-in_err-bound-in-BindBeforeInner-clause-answer : goal.returns-in_err-bound-in-BindBeforeInner-clause-answer
+returns-in_err-bound-in-BindBeforeInner-clause-answer g t c =
     let node : (c.match-ahead.node.label ≡ label_at (g.T.Meant.meaning c.loop-at.self.tree.now) c.loop-at.at) × (c.match-ahead.node.size ≡ size_at (g.T.Meant.meaning c.loop-at.self.tree.now) c.loop-at.at) = search rules in
     let t = turns (g.T.Meant.lawful c.loop-at.self.tree.now) c.loop-at.invariant.so c.loop-at-test.true node.0 node.1 c.in-BindBeforeInner.is c.choose_rule-choice.ensures.rule in
-    let r = err_from_is_err_and c.from_residual-in_err-bind_variable-in-BindBeforeInner.result c.from_residual-in_err-bind_variable-in-BindBeforeInner.ensures.1 in
-    ap (λ x. ended x c.bind_variable-in-BindBeforeInner.new.self.found) r.1 ∙ differs_tree c.in-BindBeforeInner.variable c.bind_variable-in-BindBeforeInner.new.self.found c.in_err-bind_variable-in-BindBeforeInner.ensures.answer t
+    let r = err_from_is_err_and c.from_residual-in_err-bound-in-BindBeforeInner.result c.from_residual-in_err-bound-in-BindBeforeInner.ensures.1 in
+    ap (λ x. ended x c.bind_variable-bound.new.self.found) r.1 ∙ differs_tree c.in-BindBeforeInner.variable c.bind_variable-bound.new.self.found (sym (ap (λ x. ended x c.bind_variable-bound.new.self.found) c.in_err-bound-in-BindBeforeInner.was) ∙ c.bind_variable-bound.ensures.answer) t
 
 pub loop-at-preserved : goal.loop-at-preserved
 loop-at-preserved g t c =
     let node : (c.match-ahead.node.label ≡ label_at (g.T.Meant.meaning c.loop-at.self.tree.now) c.loop-at.at) × (c.match-ahead.node.size ≡ size_at (g.T.Meant.meaning c.loop-at.self.tree.now) c.loop-at.at) = search rules in
     let t = turns (g.T.Meant.lawful c.loop-at.self.tree.now) c.loop-at.invariant.so c.loop-at-test.true node.0 node.1 c.in-BindBeforeInner.is c.choose_rule-choice.ensures.rule in
-    let e : g.T.Meant.meaning c.bind_variable-in-BindBeforeInner.new.self.tree.now ≡ g.T.Meant.meaning c.loop-at.self.tree.now = ap (λ r. g.T.Meant.meaning r.now) c.bind_variable-in-BindBeforeInner.ensures.tree in
+    let e : g.T.Meant.meaning c.bind_variable-bound.new.self.tree.now ≡ g.T.Meant.meaning c.loop-at.self.tree.now = ap (λ r. g.T.Meant.meaning r.now) c.bind_variable-bound.ensures.tree in
     record {
       on = omega (arith, c.loop-at.invariant.on);
-      tree = c.bind_variable-in-BindBeforeInner.ensures.tree ∙ c.loop-at.invariant.tree;
+      tree = c.bind_variable-bound.ensures.tree ∙ c.loop-at.invariant.tree;
       known = subst (λ f. Known f (c.loop-at.at + c.match-ahead.node.size) c.choose_rule-choice.result.next) (sym e) c.choose_rule-choice.ensures.known;
-      so = behind 1 c.loop-at.rest.now (same_tree e (bound_tree c.in-BindBeforeInner.variable c.bind_variable-in-BindBeforeInner.new.self.found c.bind_variable-in-BindBeforeInner.ensures.brief c.in_ok-bind_variable-in-BindBeforeInner.ensures.answer t));
+      so = behind 1 c.loop-at.rest.now (same_tree e (bound_tree c.in-BindBeforeInner.variable c.bind_variable-bound.new.self.found c.bind_variable-bound.ensures.brief (sym (ap (λ x. ended x c.bind_variable-bound.new.self.found) c.in_ok-bound-in-BindBeforeInner.was) ∙ c.bind_variable-bound.ensures.answer) t));
     }
 
 pub match_level-requires : goal.match_level-requires
