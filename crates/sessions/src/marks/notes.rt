@@ -1,21 +1,10 @@
 // What is noted among the marks, and read from them.
-ghost use Rattle.std.specs.Prelude.{◌≡◌, ◌<◌, ◌≤◌, true, false, [], ◌∷◌, length, replicate, IfOk, vec_len, slice_index_or};
+ghost use Rattle.std.specs.Prelude.{◌≡◌, ◌<◌, ◌≤◌, true, false, [], ◌∷◌, length, IfOk, slice_index_or};
 ghost use Rattle.runs.specs.Session.{touching, no_marks};
 ghost use Rattle.sessions.specs.Looks.{marks_view};
 
-use crate::marks::Marks;
+use crate::marks::{Mark, Marks};
 use std::alloc::{AllocError, Global};
-
-// A row without marks for each place.
-fn blank_rows(heap: Global, places: usize) -> Result<Vec<[bool; 16]>, AllocError>
-    ensures { IfOk result (λ v. v.items ≡ replicate places (replicate 16 false)) }
-{
-    let mut rows = Vec::with_capacity(heap, places)?;
-    for _i in 0..places {
-        rows.push_reserved([false; 16]);
-    }
-    Ok(rows)
-}
 
 impl Marks {
     /// No marks, for a tree of so many places.
@@ -23,12 +12,14 @@ impl Marks {
         requires { places ≤ 4096 }
         ensures { IfOk result (λ k. marks_view k ≡ no_marks places) }
     {
-        let touched = vec![in heap; false; places]?;
-        let rows = blank_rows(heap, places)?;
+        let blank = Mark {
+            touched: false,
+            matched: [false; 16],
+        };
+        let places = vec![in heap; blank; places]?;
         Ok(Marks {
             tried: 0,
-            touched,
-            rows,
+            places,
             stale: false,
         })
     }
@@ -42,18 +33,17 @@ impl Marks {
 
     /// How many places there are.
     pub(crate) fn places(&self) -> usize
-        ensures { (result ≡ length self.now.rows.items) × (result ≤ 4096) }
+        ensures { (result ≡ length (marks_view self.now).marks) × (result ≤ 4096) }
     {
-        self.rows.len()
+        self.places.len()
     }
 
     /// Whether a pattern is marked at a place.
     pub(crate) fn marked(&self, place: usize, pattern: usize) -> bool
-        requires { (place < length self.now.rows.items) × (pattern < 16) }
-        ensures { result ≡ slice_index_or (slice_index_or self.now.rows.items place []) pattern false }
+        requires { (place < length (marks_view self.now).marks) × (pattern < 16) }
+        ensures { result ≡ slice_index_or (slice_index_or (marks_view self.now).marks place []) pattern false }
     {
-        let row = self.rows[place];
-        row[pattern]
+        self.places[place].matched[pattern]
     }
 
     /// Notes that a place is touched, and that the marks are stale.
@@ -61,10 +51,9 @@ impl Marks {
         ensures { marks_view self.new ≡ touching (marks_view self.old) (record { place = place; label = 0 } ∷ []) }
     {
         self.stale = true;
-        if place >= self.touched.len() {
-            return;
+        if let Some(mark) = self.places.get_mut(place) {
+            mark.touched = true;
         }
-        self.touched[place] = true;
     }
 
     /// Notes that the marks are stale.
