@@ -1,24 +1,12 @@
 -- What a tree's answers tell of a place and a label.
 use Rattle.std.proofs.Common.{◌≡◌, ℕ, ◌<◌, ◌≤◌, Bool, true, false, cond, ltb, length, Ok, Err, Result, sym, refl, ap, ◌∙◌, ⊎_elim, arith, MatchResult}
 use Rattle.std.specs.Result.{result_unwrap_or}
-use Rattle.std.proofs.lemmas.Bool.{lt-ltb, le-ltb, cases_lt, cond-true, cond-false, ltb-true, ltb-false}
+use Rattle.std.proofs.lemmas.Bool.{lt-ltb, le-ltb, cases_lt, cond-true, cond-false, ltb-false}
 use Rattle.std.proofs.lemmas.List.{get_or_past}
 use Rattle.refusals.specs.declared.Refusal.{Refusal}
-use Rattle.trees.specs.Forest.{Forest, Node, no_node, label_at, size_at, relabel}
-use Rattle.trees.specs.Questions.{label_answer, size_answer, put_answer, no_such_place, label_too_large}
+use Rattle.trees.specs.Forest.{Forest, Node, no_node, size_at, relabel}
+use Rattle.trees.specs.Questions.{size_answer, put_answer, no_such_place, label_too_large}
 use Rattle.trees.proofs.Relabel.{relabel_out}
-
-ok_in : (b : Bool) (x v : ℕ) → ◌≡◌ {A = Result ℕ Refusal} (Ok v) (cond b (Ok x) (Err no_such_place)) → (b ≡ true) × (v ≡ x)
-ok_in true x v h = (refl, cc)
-ok_in false x v h = let z : ◌≡◌ {A = ℕ} 0 1 = cc in absurd (omega arith)
-
-err_in : (b : Bool) (x : ℕ) (e : Refusal) → ◌≡◌ {A = Result ℕ Refusal} (Err e) (cond b (Ok x) (Err no_such_place)) → (b ≡ false) × (e ≡ no_such_place)
-err_in true x e h = let z : ◌≡◌ {A = ℕ} 0 1 = cc in absurd (omega arith)
-err_in false x e h = (refl, cc)
-
--- a label that was read
-pub label_inside : (m : Forest) (p v : ℕ) → Ok v ≡ label_answer m p → (p < length m) × (v ≡ label_at m p)
-label_inside m p v h = let k = ok_in (ltb p (length m)) (label_at m p) v h in (ltb-true p (length m) k.0, k.1)
 
 -- a size, and 0 outside
 pub size_told : (m : Forest) (p : ℕ) → result_unwrap_or (size_answer m p) 0 ≡ size_at m p

@@ -3,12 +3,11 @@ use Rattle.std.proofs.Common.{◌≡◌, ℕ, zero, suc, ◌+◌, ◌-◌, ◌<�
 use Rattle.std.specs.Bool.{then_some}
 use Rattle.std.specs.Option.{option_or}
 use Rattle.std.proofs.lemmas.Bool.{cases_lt, cases_eq, cases_Bool, cond-true, cond-false, cond_both, both_ways, lt-ltb, le-ltb, and_left}
-use Rattle.std.proofs.lemmas.List.{get_or-take, get_or-drop, get_or-set_same, get_or-set_other, get_or_at, get_or_past, set_at, drop_more, drop_all, append_assoc, append-nil, replicate_more, ext_get_or, length-map}
+use Rattle.std.proofs.lemmas.List.{get_or-take, get_or-drop, get_or-set_same, get_or-set_other, get_or_at, set_at, drop_more, drop_all, append_assoc, append-nil, replicate_more, ext_get_or, length-map}
 use Rattle.refusals.specs.declared.Refusal.{Refusal}
 use Rattle.patterns.specs.declared.row.Element.{Element}
-use Rattle.trees.specs.Forest.{Forest, Law, Node, size_at, no_node}
+use Rattle.trees.specs.Forest.{Forest, size_at}
 use Rattle.trees.specs.Questions.{no_such_place}
-use Rattle.trees.specs.Windows.{sound, fits_whole}
 use Rattle.matching.specs.declared.found.Match.{Match}
 use Rattle.matching.specs.Rules.{Bindings, Outcome, fails, choose, by_rule, walk, match_at_lem}
 use Rattle.matching.specs.Answers.{answered_by, match_answer, steps_of}
@@ -42,10 +41,6 @@ keeps t p (Some b) e h = (omega (arith, h.0), h.1, λ q a c. ⊎_elim (λ (l : q
 pub nearest_step : (t : List Bool) (p : ℕ) (b : Bool) (o : Option ℕ) → b ≡ get_or t p false → Nearest t (p + 1) o → Nearest t p (option_or (then_some b p) o)
 nearest_step t p true o e h = (omega arith, sym e, λ q a c. absurd (omega arith))
 nearest_step t p false o e h = keeps t p o (sym e) h
-
--- no touched place behind the last
-pub nearest_end : (t : List Bool) (p : ℕ) → length t ≤ p → Nearest t p None
-nearest_end t p h q a = get_or_past t q false (omega arith)
 
 -- lists written from the front
 tabulate_more : {A : Type 0} (f : ℕ → A) (n : ℕ) → tabulate f (n + 1) ≡ tabulate f n ++ (f n ∷ [])
@@ -108,13 +103,6 @@ tells m es p r h e = ⊎_elim
     (λ (l : p < length m). subst (λ x. Tells x (match_at_lem m es p)) (sym (e ∙ cond-true (ltb p (length m)) _ _ (lt-ltb p (length m) l))) (tells_answered (match_at_lem m es p).bound (match_at_lem m es p).steps))
     (λ (l : length m ≤ p). let none : Tells (Err no_such_place) fails = record { hit = refl; steps = refl } in
     subst (λ x. Tells x (match_at_lem m es p)) (sym (e ∙ cond-false (ltb p (length m)) _ _ (le-ltb p (length m) l))) (subst (Tells (Err no_such_place)) (sym (fails_outside m es p h l)) none))
-    (cases_lt p (length m))
-
--- sizes are small
-pub small_size : (m : Forest) → Law m → (p : ℕ) → size_at m p ≤ 4096
-small_size m w p = ⊎_elim
-    (λ (l : p < length m). omega (arith, fits_whole m (sound m w) p l, w.few_nodes))
-    (λ (l : length m ≤ p). omega (arith, ap (λ (a : Node). a.size) (get_or_past m p no_node l)))
     (cases_lt p (length m))
 
 -- the rows stay as many

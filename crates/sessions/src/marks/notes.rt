@@ -1,10 +1,20 @@
 // What is noted among the marks, and read from them.
-ghost use Rattle.std.specs.Prelude.{◌≡◌, ◌<◌, ◌≤◌, true, false, [], ◌∷◌, length, IfOk, slice_index_or};
+ghost use Rattle.std.specs.Prelude.{◌≡◌, ◌<◌, ◌≤◌, Bool, true, false, List, [], ◌∷◌, length, take, sum_by, count_by, IfOk, slice_index_or};
 ghost use Rattle.runs.specs.Session.{touching, no_marks};
 ghost use Rattle.sessions.specs.Looks.{marks_view};
 
 use crate::marks::{Mark, Marks};
 use std::alloc::{AllocError, Global};
+
+impl Mark {
+    // How many of the first patterns are marked at the place.
+    fn count(&self, patterns: usize) -> usize
+        requires { patterns ≤ 16 }
+        ensures { result ≡ count_by (λ (b : Bool). b) (take patterns self.now.matched) }
+    {
+        self.matched[..patterns].iter().filter(|hit| **hit).count()
+    }
+}
 
 impl Marks {
     /// No marks, for a tree of so many places.
@@ -44,6 +54,18 @@ impl Marks {
         ensures { result ≡ slice_index_or (slice_index_or (marks_view self.now).marks place []) pattern false }
     {
         self.places[place].matched[pattern]
+    }
+
+    /// How many of the first patterns are marked, at all places together.
+    pub(crate) fn count(&self, patterns: usize) -> usize
+        requires { patterns ≤ 16 }
+        ensures { result ≡ sum_by (λ (r : List Bool). count_by (λ (b : Bool). b) (take patterns r)) (marks_view self.now).marks }
+    {
+        let mut count = 0;
+        for mark in &self.places {
+            count += mark.count(patterns);
+        }
+        count
     }
 
     /// Notes that a place is touched, and that the marks are stale.

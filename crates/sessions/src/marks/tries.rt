@@ -70,6 +70,8 @@ impl Marks {
     fn spread<T: Tree>(&mut self, tree: &T)
         ensures { marks_view self.new ≡ spreading (T.Meant.meaning tree.now) (marks_view self.old) }
     {
+        // Kept as a loop over numbers: of the marks written through a reversed `iter_mut` nothing is known behind the loop, not even
+        // their number, so that form had no proof.
         let mut nearest = None;
         for place in (0..self.places.len()).rev() {
             let touched = self.places[place].touched;

@@ -1,6 +1,5 @@
 -- The answer of the match tells the mark and the steps.
 use Rattle.std.proofs.Common.{set, ap, ◌∙◌}
-use Rattle.patterns.specs.declared.row.Element.{Element}
 use Rattle.patterns.specs.Elements.{elements_of}
 use Rattle.patterns.proofs.Kept.{kept}
 use Rattle.trees.specs.Forest.{Forest}

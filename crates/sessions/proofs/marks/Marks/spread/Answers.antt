@@ -52,6 +52,6 @@ returns g c =
     let u : List Bool = touched_of (vec_items c.args.self.now.places) in
     let long : length t ≡ length u = length-map (vec_items c.loop-place.self.places) (λ (x : Mark). x.touched) ∙ omega (arith, c.loop-place.self.places.ok.0, c.args.self.now.places.ok.0, c.loop-place.invariant.len) ∙ sym (length-map (vec_items c.args.self.now.places) (λ (x : Mark). x.touched)) in
     let all : t ≡ spread_out m u = ext_get_or false t (spread_out m u) (long ∙ sym (length_tabulate (λ i. any (take (size_at m i) (drop i u))) (length u))) (λ q h.
-        let l : q < length (touched_of (vec_items c.args.self.now.places)) = omega (arith, long) in
-        c.loop-place.invariant.behind q (omega arith) l ∙ sym (get_d_tabulate (λ i. any (take (size_at m i) (drop i u))) (length u) q false l)) in
+    let l : q < length (touched_of (vec_items c.args.self.now.places)) = omega (arith, long) in
+    c.loop-place.invariant.behind q (omega arith) l ∙ sym (get_d_tabulate (λ i. any (take (size_at m i) (drop i u))) (length u) q false l)) in
     λ i. record { tried = c.loop-place.invariant.tried i; touched = all i; marks = c.loop-place.invariant.rows i; stale = c.loop-place.invariant.stale i }
