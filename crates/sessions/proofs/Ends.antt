@@ -1,9 +1,9 @@
 -- How the turn of each call ends, by the tests that it passes, and the parts of the state that it leaves.
-use Rattle.std.proofs.Common.{◌≡◌, ℕ, ◌+◌, ◌<◌, ◌≤◌, Bool, true, false, ◌&&◌, eqb, ltb, leb, List, [], ◌∷◌, length, get_or, drop, is_some, None, unwrap_or, vec_items, sym, refl, ap, ◌∙◌, arith}
-use Rattle.std.proofs.lemmas.Bool.{both_ways, cond-true, cond-false, and_parts, not-false, lt-leb, lt-ltb}
+use Rattle.std.proofs.Common.{◌≡◌, ℕ, ◌<◌, Bool, true, false, ◌&&◌, eqb, List, [], ◌∷◌, length, get_or, drop, is_some, None, unwrap_or, vec_items, refl, ap, ◌∙◌, arith}
+use Rattle.std.proofs.lemmas.Bool.{both_ways, and_parts, not-false}
 use Rattle.patterns.specs.declared.row.Element.{Element}
 use Rattle.trees.specs.Forest.{Forest}
-use Rattle.runs.specs.Session.{Change, Journal, Marks, State, refused, Turn, total_changes, is_open, opened, wrong, changing, places}
+use Rattle.runs.specs.Session.{Change, Journal, Marks, State, is_open, wrong}
 use Rattle.sessions.specs.declared.journal.Journal.{Journal as Tables}
 use Rattle.sessions.specs.Held.{journal_of}
 use Rattle.sessions.specs.Journals.{clicks_of}
@@ -26,14 +26,6 @@ right_open s n e = (and_parts (is_open s) (eqb n s.name) (not-false (is_open s &
 pub some_click : (j : Tables) → j.pending ≡ true → 0 < length (clicks_of j)
 some_click j b = omega (arith, j.begun b, j.clicks.ok.0, length_held (vec_items j.clicks) (vec_items j.changes))
 
-all_of : (gs : List (List Change)) → length (get_or gs 0 []) + total_changes (drop 1 gs) ≡ total_changes gs
-all_of [] = refl
-all_of (g ∷ gs) = refl
-
-pub all_changes : (b : Bool) (gs : List (List Change)) → b ≡ true → length (unwrap_or (journal_of b gs).click []) + total_changes (journal_of b gs).clicks ≡ total_changes gs
-all_changes true gs e = all_of gs
-all_changes false gs e = absurd (both_ways false refl e)
-
 -- the journal with a click committed, and cleared
 kept_one : (gs : List (List Change)) → 0 < length gs → gs ≡ get_or gs 0 [] ∷ drop 1 gs
 kept_one [] h = absurd (omega arith)
@@ -42,11 +34,3 @@ kept_one (g ∷ gs) h = refl
 pub kept_journal : (b c : Bool) (gs hs : List (List Change)) → b ≡ true → c ≡ false → hs ≡ gs → 0 < length gs → ◌≡◌ {A = Journal} (journal_of c hs) (record { clicks = unwrap_or (journal_of b gs).click [] ∷ (journal_of b gs).clicks; click = None })
 kept_journal true c gs hs p q e h = ap (λ y. journal_of y hs) q ∙ ap (journal_of false) (e ∙ kept_one gs h)
 kept_journal false c gs hs p q e h = absurd (both_ways false refl p)
-
--- a change that is refused for its label
-pub too_large : (s : State) (n p l : ℕ) → wrong s n ≡ false → p < places s → length (opened s) + total_changes s.journal.clicks < 256 → 32768 ≤ l → ◌≡◌ {A = Turn} (s, refused 10 5 0 0) (changing s n p l)
-too_large s n p l e h few big = sym (
-    cond-false (wrong s n) _ _ e
-    ∙ cond-false (leb (places s) p) _ _ (lt-leb (places s) p h)
-    ∙ cond-false (leb 256 (length (opened s) + total_changes s.journal.clicks)) _ _ (lt-leb 256 (length (opened s) + total_changes s.journal.clicks) few)
-    ∙ cond-true (ltb 32767 l) _ _ (lt-ltb 32767 l big))

@@ -1,26 +1,19 @@
 -- What a tree's answers tell of a place and a label.
 use Rattle.std.proofs.Common.{◌≡◌, ℕ, ◌<◌, ◌≤◌, Bool, true, false, cond, ltb, length, Ok, Err, Result, sym, refl, ap, ◌∙◌, ⊎_elim, arith, MatchResult}
-use Rattle.std.proofs.lemmas.Bool.{lt-ltb, cases_lt, ltb-true, ltb-false}
+use Rattle.std.specs.Result.{result_unwrap_or}
+use Rattle.std.proofs.lemmas.Bool.{lt-ltb, le-ltb, cases_lt, cond-true, cond-false, ltb-false}
+use Rattle.std.proofs.lemmas.List.{get_or_past}
 use Rattle.refusals.specs.declared.Refusal.{Refusal}
-use Rattle.trees.specs.Forest.{Forest, label_at, size_at, relabel}
-use Rattle.trees.specs.Questions.{label_answer, size_answer, put_answer, no_such_place, label_too_large}
+use Rattle.trees.specs.Forest.{Forest, Node, no_node, size_at, relabel}
+use Rattle.trees.specs.Questions.{size_answer, put_answer, no_such_place, label_too_large}
 use Rattle.trees.proofs.Relabel.{relabel_out}
 
-ok_in : (b : Bool) (x v : ℕ) → ◌≡◌ {A = Result ℕ Refusal} (Ok v) (cond b (Ok x) (Err no_such_place)) → (b ≡ true) × (v ≡ x)
-ok_in true x v h = (refl, cc)
-ok_in false x v h = let z : ◌≡◌ {A = ℕ} 0 1 = cc in absurd (omega arith)
-
-err_in : (b : Bool) (x : ℕ) (e : Refusal) → ◌≡◌ {A = Result ℕ Refusal} (Err e) (cond b (Ok x) (Err no_such_place)) → (b ≡ false) × (e ≡ no_such_place)
-err_in true x e h = let z : ◌≡◌ {A = ℕ} 0 1 = cc in absurd (omega arith)
-err_in false x e h = (refl, cc)
-
--- a label that was read
-pub label_inside : (m : Forest) (p v : ℕ) → Ok v ≡ label_answer m p → (p < length m) × (v ≡ label_at m p)
-label_inside m p v h = let k = ok_in (ltb p (length m)) (label_at m p) v h in (ltb-true p (length m) k.0, k.1)
-
--- a size that was refused
-pub size_outside : (m : Forest) (p : ℕ) (e : Refusal) → Err e ≡ size_answer m p → length m ≤ p
-size_outside m p e h = ltb-false p (length m) (err_in (ltb p (length m)) (size_at m p) e h).0
+-- a size, and 0 outside
+pub size_told : (m : Forest) (p : ℕ) → result_unwrap_or (size_answer m p) 0 ≡ size_at m p
+size_told m p = ⊎_elim
+    (λ (l : p < length m). ap (λ (r : Result ℕ Refusal). result_unwrap_or r 0) (cond-true (ltb p (length m)) (Ok (size_at m p)) (Err no_such_place) (lt-ltb p (length m) l)))
+    (λ (l : length m ≤ p). ap (λ (r : Result ℕ Refusal). result_unwrap_or r 0) (cond-false (ltb p (length m)) (Ok (size_at m p)) (Err no_such_place) (le-ltb p (length m) l)) ∙ sym (ap (λ (a : Node). a.size) (get_or_past m p no_node l)))
+    (cases_lt p (length m))
 
 err_put : (b w : Bool) (e : Refusal) → b ≡ true → ◌≡◌ {A = Result (Unit {0}) Refusal} (Err e) (cond b (cond w (Ok tt) (Err label_too_large)) (Err no_such_place)) → (w ≡ false) × (e ≡ label_too_large)
 err_put true true e t h = let z : ◌≡◌ {A = ℕ} 0 1 = cc in absurd (omega arith)

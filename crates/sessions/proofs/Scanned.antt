@@ -1,7 +1,8 @@
 -- Findings counted, written one by one, and found by a scan.
-use Rattle.std.proofs.Common.{◌≡◌, ℕ, zero, suc, ◌+◌, ◌*◌, ◌<◌, ◌≤◌, true, false, cond, List, [], ◌∷◌, ◌++◌, length, get_or, take, drop, set, Some, None, Option, sym, refl, ap, ◌∙◌, ⊎_elim, add-one, arith, length-append, length-take}
+use Rattle.std.proofs.Common.{◌≡◌, ℕ, zero, suc, ◌+◌, ◌<◌, ◌≤◌, Bool, true, false, cond, List, [], ◌∷◌, ◌++◌, length, get_or, take, drop, set, sum_by, count_by, Some, None, Option, sym, refl, ap, ◌∙◌, ⊎_elim, add-one, arith, length-append, length-take}
 use Rattle.std.proofs.lemmas.Bool.{cases_lt, cases_Bool, cond-true, cond-false}
-use Rattle.std.proofs.lemmas.List.{set_at, drop_more, append_assoc, take_at, drop-drop, drop_at}
+use Rattle.std.proofs.lemmas.List.{set_at, drop_more, append_assoc, take_at, take_more, take_all, drop-drop, drop_at}
+use Rattle.std.proofs.lemmas.List.Sums.{sum_by_push, count_by_more_yes, count_by_more_no}
 use Rattle.std.specs.Option.{ok_or}
 use Rattle.refusals.specs.Numbers.{refused as refusal_of}
 use Rattle.refusals.specs.declared.Cause.TheVariants.{NoMatch}
@@ -72,16 +73,6 @@ marked_same s i n e = ap (marked_at s i) (add-one n) ∙ ap (λ x. marked_at s i
 pub counted_more : (s : State) (i n : ℕ) → mark s i n ≡ true → length (marked_at s i (n + 1)) ≡ length (marked_at s i n) + 1
 counted_more s i n e = ap length (marked_more s i n e) ∙ length-append (marked_at s i n) ((i, n) ∷ [])
 
-pub few_at : (s : State) (i n : ℕ) → length (marked_at s i n) ≤ n
-few_at s i zero = omega arith
-few_at s i (suc n) =
-    let b = few_at s i n in
-    let a = length-append (marked_at s i n) (cond (mark s i n) ((i, n) ∷ []) []) in
-    ⊎_elim
-    (λ t. omega (arith, ap (λ (x : List (ℕ × ℕ)). length x) (cond-true (mark s i n) ((i, n) ∷ []) [] t)))
-    (λ t. omega (arith, ap (λ (x : List (ℕ × ℕ)). length x) (cond-false (mark s i n) ((i, n) ∷ []) [] t)))
-    (cases_Bool (mark s i n))
-
 pub at_most : (s : State) (i n k : ℕ) → n ≤ k → length (marked_at s i n) ≤ length (marked_at s i k)
 at_most s i n zero h = let z : n ≡ 0 = omega arith in omega (arith, ap (λ x. length (marked_at s i x)) z)
 at_most s i n (suc k) h = ⊎_elim
@@ -95,10 +86,6 @@ placed_more s i = ap (marked s) (add-one i)
 
 pub counted_place : (s : State) (i : ℕ) → length (marked s (i + 1)) ≡ length (marked s i) + length (marked_at s i (length s.patterns))
 counted_place s i = ap length (placed_more s i) ∙ length-append (marked s i) (marked_at s i (length s.patterns))
-
-pub few_marked : (s : State) (i : ℕ) → length s.patterns ≤ 16 → length (marked s i) ≤ 16 * i
-few_marked s zero h = omega arith
-few_marked s (suc i) h = omega (arith, few_marked s i h, length-append (marked s i) (marked_at s i (length s.patterns)), few_at s i (length s.patterns))
 
 pub at_most_places : (s : State) (i n : ℕ) → i ≤ n → length (marked s i) ≤ length (marked s n)
 at_most_places s i zero h = let z : i ≡ 0 = omega arith in omega (arith, ap (λ x. length (marked s x)) z)
@@ -122,3 +109,33 @@ written_place o out fs gs n r e q w =
     let front : take n o ≡ fs = ap (take n) w ∙ take_at fs (drop n out) n (sym e) in
     let back : drop r o ≡ drop r out = ap (λ k. drop k o) q ∙ sym (drop-drop (length gs) n o) ∙ ap (drop (length gs)) (ap (drop n) w ∙ drop_at fs (drop n out) n (sym e)) ∙ drop-drop (length gs) n out ∙ ap (λ k. drop k out) (sym q) in
     (λ i. front i ++ (gs ++ back i)) ∙ sym (append_assoc fs gs (drop r out))
+
+-- the findings counted row by row
+abbrev pub hits : ℕ → List Bool → ℕ
+hits n r = count_by (λ (b : Bool). b) (take n r)
+
+counted_at : (s : State) (i n : ℕ) → n ≤ length (get_or s.look.marks i []) → length (marked_at s i n) ≡ hits n (get_or s.look.marks i [])
+counted_at s i zero h = refl
+counted_at s i (suc n) h =
+    let row = get_or s.look.marks i [] in
+    let more : length (marked_at s i (suc n)) ≡ length (marked_at s i (n + 1)) = ap (λ (k : ℕ). length (marked_at s i k)) (sym (add-one n)) in
+    let back : hits (n + 1) row ≡ hits (suc n) row = ap (λ (k : ℕ). hits k row) (add-one n) in
+    let few : n ≤ length (get_or s.look.marks i []) = omega arith in
+    let inside : n < length (get_or s.look.marks i []) = omega arith in
+    ⊎_elim
+    (λ (t : mark s i n ≡ true). more ∙ counted_more s i n t ∙ ap (λ (k : ℕ). k + 1) (counted_at s i n few) ∙ sym (count_by_more_yes (λ (b : Bool). b) row n false inside t) ∙ back)
+    (λ (t : mark s i n ≡ false). more ∙ ap length (marked_same s i n t) ∙ counted_at s i n few ∙ sym (count_by_more_no (λ (b : Bool). b) row n false inside t) ∙ back)
+    (cases_Bool (mark s i n))
+
+counted_rows : (s : State) → ((i : ℕ) → i < length s.look.marks → length s.patterns ≤ length (get_or s.look.marks i [])) → (n : ℕ) → n ≤ length s.look.marks → length (marked s n) ≡ sum_by (hits (length s.patterns)) (take n s.look.marks)
+counted_rows s w zero h = refl
+counted_rows s w (suc n) h =
+    let inside : n < length s.look.marks = omega arith in
+    length-append (marked s n) (marked_at s n (length s.patterns))
+    ∙ (λ i. counted_rows s w n (omega arith) i + counted_at s n (length s.patterns) (w n inside) i)
+    ∙ sym (sum_by_push (hits (length s.patterns)) (take n s.look.marks) (get_or s.look.marks n []))
+    ∙ ap (sum_by (hits (length s.patterns))) (sym (take_more s.look.marks n [] inside))
+    ∙ ap (λ (k : ℕ). sum_by (hits (length s.patterns)) (take k s.look.marks)) (add-one n)
+
+pub counted_all : (s : State) → ((i : ℕ) → i < length s.look.marks → length s.patterns ≤ length (get_or s.look.marks i [])) → length (all_found s) ≡ sum_by (hits (length s.patterns)) s.look.marks
+counted_all s w = counted_rows s w (length s.look.marks) (omega arith) ∙ ap (sum_by (hits (length s.patterns))) (take_all (length s.look.marks) s.look.marks (omega arith))

@@ -1,16 +1,19 @@
 -- Marks brought up to date pattern by pattern are those that a rebuild has.
-use Rattle.std.proofs.Common.{◌≡◌, ℕ, zero, suc, ◌+◌, ◌-◌, ◌<◌, ◌≤◌, Bool, true, false, cond, ◌&&◌, ◌||◌, ltb, leb, List, [], ◌∷◌, ◌++◌, length, get_or, take, drop, set, replicate, is_some, is_ok, Some, None, Err, Option, Result, sym, refl, ap, ◌∙◌, subst, ⊎_elim, add-one, one-add, arith, length-set}
+use Rattle.std.proofs.Common.{◌≡◌, ℕ, zero, suc, ◌+◌, ◌-◌, ◌<◌, ◌≤◌, Bool, true, false, cond, ◌&&◌, ◌||◌, ltb, leb, List, [], ◌∷◌, ◌++◌, map, length, get_or, take, drop, set, replicate, is_some, is_ok, Some, None, Err, Option, Result, sym, refl, ap, ◌∙◌, subst, ⊎_elim, add-one, one-add, arith, length-set}
+use Rattle.std.specs.Bool.{then_some}
+use Rattle.std.specs.Option.{option_or}
 use Rattle.std.proofs.lemmas.Bool.{cases_lt, cases_eq, cases_Bool, cond-true, cond-false, cond_both, both_ways, lt-ltb, le-ltb, and_left}
-use Rattle.std.proofs.lemmas.List.{get_or-take, get_or-drop, get_or-set_same, get_or-set_other, get_or_at, get_or_past, set_at, drop_more, drop_all, append_assoc, append-nil, replicate_more, ext_get_or}
+use Rattle.std.proofs.lemmas.List.{get_or-take, get_or-drop, get_or-set_same, get_or-set_other, get_or_at, set_at, drop_more, drop_all, append_assoc, append-nil, replicate_more, ext_get_or, length-map}
 use Rattle.refusals.specs.declared.Refusal.{Refusal}
 use Rattle.patterns.specs.declared.row.Element.{Element}
-use Rattle.trees.specs.Forest.{Forest, Law, Node, size_at, no_node}
+use Rattle.trees.specs.Forest.{Forest, size_at}
 use Rattle.trees.specs.Questions.{no_such_place}
-use Rattle.trees.specs.Windows.{sound, fits_whole}
 use Rattle.matching.specs.declared.found.Match.{Match}
 use Rattle.matching.specs.Rules.{Bindings, Outcome, fails, choose, by_rule, walk, match_at_lem}
 use Rattle.matching.specs.Answers.{answered_by, match_answer, steps_of}
 use Rattle.runs.specs.Session.{Marks, any, tabulate, total, tries, subtree_touched, rebuilt_marks, rebuild_steps}
+use Rattle.sessions.specs.declared.marks.Mark.{Mark}
+use Rattle.sessions.specs.Looks.{touched_of, rows_of}
 use Rattle.sessions.specs.Tries.{seen, spread_out, Nearest, within, tried_row, all_rows, all_steps}
 use Rattle.runs.proofs.Marking.{not_touched, length_tabulate, get_d_tabulate}
 
@@ -35,13 +38,9 @@ keeps : (t : List Bool) (p : ℕ) (o : Option ℕ) → get_or t p false ≡ fals
 keeps t p None e h = λ q a. ⊎_elim (λ (l : q < p + 1). let z : q ≡ p = omega arith in ap (λ x. get_or t x false) z ∙ e) (λ (l : p + 1 ≤ q). h q l) (cases_lt q (p + 1))
 keeps t p (Some b) e h = (omega (arith, h.0), h.1, λ q a c. ⊎_elim (λ (l : q < p + 1). let z : q ≡ p = omega arith in ap (λ x. get_or t x false) z ∙ e) (λ (l : p + 1 ≤ q). h.2 q l c) (cases_lt q (p + 1)))
 
-pub nearest_step : (t : List Bool) (p : ℕ) (b : Bool) (o : Option ℕ) → b ≡ get_or t p false → Nearest t (p + 1) o → Nearest t p (cond b (Some p) o)
+pub nearest_step : (t : List Bool) (p : ℕ) (b : Bool) (o : Option ℕ) → b ≡ get_or t p false → Nearest t (p + 1) o → Nearest t p (option_or (then_some b p) o)
 nearest_step t p true o e h = (omega arith, sym e, λ q a c. absurd (omega arith))
 nearest_step t p false o e h = keeps t p o (sym e) h
-
--- no touched place behind the last
-pub nearest_end : (t : List Bool) (p : ℕ) → length t ≤ p → Nearest t p None
-nearest_end t p h q a = get_or_past t q false (omega arith)
 
 -- lists written from the front
 tabulate_more : {A : Type 0} (f : ℕ → A) (n : ℕ) → tabulate f (n + 1) ≡ tabulate f n ++ (f n ∷ [])
@@ -106,21 +105,15 @@ tells m es p r h e = ⊎_elim
     subst (λ x. Tells x (match_at_lem m es p)) (sym (e ∙ cond-false (ltb p (length m)) _ _ (le-ltb p (length m) l))) (subst (Tells (Err no_such_place)) (sym (fails_outside m es p h l)) none))
     (cases_lt p (length m))
 
--- sizes are small
-pub small_size : (m : Forest) → Law m → (p : ℕ) → size_at m p ≤ 4096
-small_size m w p = ⊎_elim
-    (λ (l : p < length m). omega (arith, fits_whole m (sound m w) p l, w.few_nodes))
-    (λ (l : length m ≤ p). omega (arith, ap (λ (a : Node). a.size) (get_or_past m p no_node l)))
-    (cases_lt p (length m))
+-- the rows stay as many
+pub all_long : (m : Forest) (ps : List (List Element)) (k : ℕ) (t : List Bool) (rows : List (List Bool)) (n : ℕ) → length (all_rows m ps k t rows n) ≡ length rows
+all_long m ps k t rows zero = refl
+all_long m ps k t rows (suc n) = length_tabulate (tried_row m (get_or ps n []) n (leb k n) t (all_rows m ps k t rows n)) (length (all_rows m ps k t rows n)) ∙ all_long m ps k t rows n
 
 -- the rows after some patterns
 module _ (m : Forest) (ps : List (List Element)) (k : ℕ) (t : List Bool) (rows : List (List Bool)) (wide : (i : ℕ) → i < length rows → length (get_or rows i []) ≡ 16) where
-  pub rows_long : (n : ℕ) → length (all_rows m ps k t rows n) ≡ length rows
-  rows_long zero = refl
-  rows_long (suc n) = length_tabulate (tried_row m (get_or ps n []) n (leb k n) t (all_rows m ps k t rows n)) (length (all_rows m ps k t rows n)) ∙ rows_long n
-
   row_is : (n i : ℕ) → i < length rows → get_or (all_rows m ps k t rows (suc n)) i [] ≡ tried_row m (get_or ps n []) n (leb k n) t (all_rows m ps k t rows n) i
-  row_is n i h = get_d_tabulate (tried_row m (get_or ps n []) n (leb k n) t (all_rows m ps k t rows n)) (length (all_rows m ps k t rows n)) i [] (omega (arith, rows_long n))
+  row_is n i h = get_d_tabulate (tried_row m (get_or ps n []) n (leb k n) t (all_rows m ps k t rows n)) (length (all_rows m ps k t rows n)) i [] (omega (arith, all_long m ps k t rows n))
 
   row_wide : (n i : ℕ) → i < length rows → length (get_or (all_rows m ps k t rows n) i []) ≡ 16
   row_wide zero i h = wide i h
@@ -182,8 +175,8 @@ all_rebuilt m ps K wide same few =
     let F = all_rows m ps K.tried (spread_out m K.touched) K.marks (length ps) in
     let s = seen m ps K in
     let G : ℕ → ℕ → Bool = λ i j. cond (tries (seen m ps K) i j) (is_some (match_at_lem m (get_or ps j []) i).bound) (get_or (get_or K.marks i []) j false) in
-    ext_get_or [] _ _ (rows_long m ps K.tried (spread_out m K.touched) K.marks wide (length ps) ∙ sym (length_tabulate (λ i. tabulate (G i) 16) (length K.marks))) (λ i h.
-    let l : i < length K.marks = omega (arith, rows_long m ps K.tried (spread_out m K.touched) K.marks wide (length ps)) in
+    ext_get_or [] _ _ (all_long m ps K.tried (spread_out m K.touched) K.marks (length ps) ∙ sym (length_tabulate (λ i. tabulate (G i) 16) (length K.marks))) (λ i h.
+    let l : i < length K.marks = omega (arith, all_long m ps K.tried (spread_out m K.touched) K.marks (length ps)) in
     let w = row_wide m ps K.tried (spread_out m K.touched) K.marks wide (length ps) i l in
     ext_get_or false (get_or F i []) (tabulate (G i) 16) (w ∙ sym (length_tabulate (G i) 16)) (λ q r.
     let c : q < 16 = omega arith in
@@ -198,7 +191,15 @@ all_stepped m ps K same =
     ap (λ b. cond (leb K.tried j || b) (match_at_lem m (get_or ps j []) i).steps 0) (touched_at m ps K i (omega arith))
     ∙ ap (λ b. cond (b && (leb K.tried j || subtree_touched (seen m ps K) i)) (match_at_lem m (get_or ps j []) i).steps 0) (sym (lt-ltb j (length ps) h))))
 
-pub rebuilt_wide : (m : Forest) (ps : List (List Element)) (K : Marks) (i : ℕ) → i < length K.marks → length (get_or (rebuilt_marks (seen m ps K)) i []) ≡ 16
-rebuilt_wide m ps K i h =
-    let G : ℕ → ℕ → Bool = λ a j. cond (tries (seen m ps K) a j) (is_some (match_at_lem m (get_or ps j []) a).bound) (get_or (get_or K.marks a []) j false) in
-    ap length (get_d_tabulate (λ a. tabulate (G a) 16) (length K.marks) i [] h) ∙ length_tabulate (G i) 16
+-- the marks of places, as the lists of a state
+pub rows_wide : (ms : List Mark) (i : ℕ) → i < length (rows_of ms) → length (get_or (rows_of ms) i []) ≡ 16
+rows_wide [] i h = absurd (omega arith)
+rows_wide (x ∷ ms) zero h = x.wide
+rows_wide (x ∷ ms) (suc i) h = rows_wide ms i (omega arith)
+
+pub as_many : (ms : List Mark) → length (touched_of ms) ≡ length (rows_of ms)
+as_many ms = length-map ms (λ (x : Mark). x.touched) ∙ sym (length-map ms (λ (x : Mark). x.matched))
+
+pub map_same : {A B : Type 0} (f : A → B) (n : ℕ) (a : A) → map f (replicate n a) ≡ replicate n (f a)
+map_same f zero a = refl
+map_same f (suc n) a = ap (λ xs. f a ∷ xs) (map_same f n a)

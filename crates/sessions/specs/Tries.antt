@@ -43,3 +43,15 @@ all_rows m ps k t rows (suc j) = tried_rows m (slice_index_or ps j []) j (nat_le
 -- Their steps, at so many places.
 abbrev pub all_steps : Forest → List (List Element) → ℕ → List Bool → ℕ → ℕ → ℕ
 all_steps m ps k t places n = total (λ j. tried_steps m (slice_index_or ps j []) (nat_le k j) t places) n
+
+-- The marks with what was touched spread over the places around.
+abbrev pub spreading : Forest → Marks → Marks
+spreading m k = record { tried = k.tried; touched = spread_out m k.touched; marks = k.marks; stale = k.stale }
+
+-- The marks after the pattern j was tried.
+abbrev pub trying : Forest → List Element → ℕ → Marks → Marks
+trying m es j k = record { tried = k.tried; touched = k.touched; marks = tried_rows m es j (nat_le k.tried j) k.touched k.marks; stale = k.stale }
+
+-- The marks after the patterns below n were tried.
+abbrev pub trying_all : Forest → List (List Element) → ℕ → Marks → Marks
+trying_all m ps n k = record { tried = k.tried; touched = k.touched; marks = all_rows m ps k.tried k.touched k.marks n; stale = k.stale }

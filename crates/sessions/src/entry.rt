@@ -1,13 +1,13 @@
 // The entries of a journal: clicks, and what their changes replaced.
 
 /// A click: how many changes belong to it.
-#[derive(Clone, Copy)]
+#[derive(Clone, Copy, PartialEq, Eq, Debug)]
 pub struct Click {
     pub changes: usize,
 }
 
 /// A change, by what puts it back: the place, and the label that stood there.
-#[derive(Clone, Copy)]
+#[derive(Clone, Copy, PartialEq, Eq, Debug)]
 pub struct Replaced {
     pub place: usize,
     pub label: u16,

@@ -14,6 +14,8 @@ pub(crate) use notes::{CHANGES, CLICKS};
 pub(crate) struct Journal {
     clicks: Vec<Click>,
     changes: Vec<Replaced>,
+    // Kept as a flag beside the clicks: the entry of the open click stands in the table like the others, where it is lent and its
+    // count raised.
     pending: bool,
     ghost click_room: { 64 ≤ vec_capacity clicks },
     ghost change_room: { 256 ≤ vec_capacity changes },

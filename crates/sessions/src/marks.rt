@@ -2,17 +2,22 @@
 mod notes;
 mod tries;
 
-ghost use Rattle.std.specs.Prelude.{◌≡◌, ℕ, ◌<◌, ◌≤◌, [], length, vec_len, slice_index_or};
+ghost use Rattle.std.specs.Prelude.{◌≡◌, ◌≤◌, length, vec_len};
 
-/// For each place a row of 16 marks and whether it was touched since the last rebuild; how many patterns that rebuild
-/// tried; and whether anything changed since. All room is taken when the marks are made.
+/// What is kept of a place: whether it was touched since the last rebuild, and which patterns are marked there.
+#[derive(Clone, Copy)]
+pub(crate) struct Mark {
+    touched: bool,
+    matched: [bool; 16],
+    ghost wide: { length matched ≡ 16 },
+}
+
+/// A mark for each place; how many patterns the last rebuild tried; and whether anything changed since. All room is taken when
+/// the marks are made.
 #[derive(Drop)]
 pub(crate) struct Marks {
     tried: usize,
-    touched: Vec<bool>,
-    rows: Vec<[bool; 16]>,
+    places: Vec<Mark>,
     stale: bool,
-    ghost paired: { vec_len touched ≡ vec_len rows },
-    ghost few: { vec_len rows ≤ 4096 },
-    ghost wide: { (i : ℕ) → i < vec_len rows → length (slice_index_or rows.items i []) ≡ 16 },
+    ghost few: { vec_len places ≤ 4096 },
 }

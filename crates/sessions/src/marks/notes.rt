@@ -1,20 +1,19 @@
 // What is noted among the marks, and read from them.
-ghost use Rattle.std.specs.Prelude.{◌≡◌, ◌<◌, ◌≤◌, true, false, [], ◌∷◌, length, replicate, IfOk, vec_len, slice_index_or};
+ghost use Rattle.std.specs.Prelude.{◌≡◌, ◌<◌, ◌≤◌, Bool, true, false, List, [], ◌∷◌, length, take, sum_by, count_by, IfOk, slice_index_or};
 ghost use Rattle.runs.specs.Session.{touching, no_marks};
 ghost use Rattle.sessions.specs.Looks.{marks_view};
 
-use crate::marks::Marks;
+use crate::marks::{Mark, Marks};
 use std::alloc::{AllocError, Global};
 
-// A row without marks for each place.
-fn blank_rows(heap: Global, places: usize) -> Result<Vec<[bool; 16]>, AllocError>
-    ensures { IfOk result (λ v. v.items ≡ replicate places (replicate 16 false)) }
-{
-    let mut rows = Vec::with_capacity(heap, places)?;
-    for _i in 0..places {
-        rows.push_reserved([false; 16]);
+impl Mark {
+    // How many of the first patterns are marked at the place.
+    fn count(&self, patterns: usize) -> usize
+        requires { patterns ≤ 16 }
+        ensures { result ≡ count_by (λ (b : Bool). b) (take patterns self.now.matched) }
+    {
+        self.matched[..patterns].iter().filter(|hit| **hit).count()
     }
-    Ok(rows)
 }
 
 impl Marks {
@@ -23,12 +22,14 @@ impl Marks {
         requires { places ≤ 4096 }
         ensures { IfOk result (λ k. marks_view k ≡ no_marks places) }
     {
-        let touched = vec![in heap; false; places]?;
-        let rows = blank_rows(heap, places)?;
+        let blank = Mark {
+            touched: false,
+            matched: [false; 16],
+        };
+        let places = vec![in heap; blank; places]?;
         Ok(Marks {
             tried: 0,
-            touched,
-            rows,
+            places,
             stale: false,
         })
     }
@@ -42,18 +43,29 @@ impl Marks {
 
     /// How many places there are.
     pub(crate) fn places(&self) -> usize
-        ensures { (result ≡ length self.now.rows.items) × (result ≤ 4096) }
+        ensures { (result ≡ length (marks_view self.now).marks) × (result ≤ 4096) }
     {
-        self.rows.len()
+        self.places.len()
     }
 
     /// Whether a pattern is marked at a place.
     pub(crate) fn marked(&self, place: usize, pattern: usize) -> bool
-        requires { (place < length self.now.rows.items) × (pattern < 16) }
-        ensures { result ≡ slice_index_or (slice_index_or self.now.rows.items place []) pattern false }
+        requires { (place < length (marks_view self.now).marks) × (pattern < 16) }
+        ensures { result ≡ slice_index_or (slice_index_or (marks_view self.now).marks place []) pattern false }
     {
-        let row = self.rows[place];
-        row[pattern]
+        self.places[place].matched[pattern]
+    }
+
+    /// How many of the first patterns are marked, at all places together.
+    pub(crate) fn count(&self, patterns: usize) -> usize
+        requires { patterns ≤ 16 }
+        ensures { result ≡ sum_by (λ (r : List Bool). count_by (λ (b : Bool). b) (take patterns r)) (marks_view self.now).marks }
+    {
+        let mut count = 0;
+        for mark in &self.places {
+            count += mark.count(patterns);
+        }
+        count
     }
 
     /// Notes that a place is touched, and that the marks are stale.
@@ -61,10 +73,9 @@ impl Marks {
         ensures { marks_view self.new ≡ touching (marks_view self.old) (record { place = place; label = 0 } ∷ []) }
     {
         self.stale = true;
-        if place >= self.touched.len() {
-            return;
+        if let Some(mark) = self.places.get_mut(place) {
+            mark.touched = true;
         }
-        self.touched[place] = true;
     }
 
     /// Notes that the marks are stale.

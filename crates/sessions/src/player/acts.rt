@@ -88,8 +88,8 @@ impl<T: ChangeableTree> Player<T> {
         ensures states { view T.Meant.meaning self.new.session ≡ (stands (view T.Meant.meaning self.old.session) (table_of self.old.hands out.old) calls.now (playable calls.now notes.old)).state }
         ensures noted { Noted (view T.Meant.meaning self.old.session) (table_of self.old.hands out.old) calls.now notes.old notes.new (table_of self.new.hands out.new) }
     {
-        // The notes are written by their numbers: of what is written through the references of a `zip` with `iter_mut`, nothing
-        // but the length is known behind the loop, so that form had no proof.
+        // Kept as writes by number: of what is written through the references of a `zip` with `iter_mut` nothing but the length is
+        // known behind the loop, so that form had no proof.
         let count = calls.len().min(notes.len());
         for (i, call) in calls[..count].iter().enumerate() {
             notes[i] = self.act(out, call);

@@ -20,6 +20,7 @@ impl<T: ChangeableTree> Session<T> {
     }
 
     // The first mark: the lowest place, and there the lowest pattern.
+    // Kept as a nested scan that its label leaves: a rule of the project has the first finding found so.
     fn first_mark(&self) -> Option<(usize, usize)>
         ensures { First (view T.Meant.meaning self.now) result }
     {
@@ -37,33 +38,15 @@ impl<T: ChangeableTree> Session<T> {
         found
     }
 
-    // How many patterns are marked at a place.
-    fn count_at(&self, place: usize) -> usize
-        requires { place < length (view T.Meant.meaning self.now).look.marks }
-        ensures { (result ≡ length (marked_at (view T.Meant.meaning self.now) place (length (view T.Meant.meaning self.now).patterns))) × (result ≤ 16) }
-    {
-        let patterns = self.shelf.count();
-        let mut count = 0;
-        for pattern in 0..patterns {
-            if self.marks.marked(place, pattern) {
-                count += 1;
-            }
-        }
-        count
-    }
-
     // How many marks there are.
     fn count_marks(&self) -> usize
         ensures { result ≡ length (all_found (view T.Meant.meaning self.now)) }
     {
-        let places = self.marks.places();
-        let mut count = 0;
-        for place in 0..places {
-            count += self.count_at(place);
-        }
-        count
+        self.marks.count(self.shelf.count())
     }
 
+    // Kept as a loop that counts how far it wrote: of what is written through a slice's `iter_mut` in a chain nothing but the
+    // length is known behind it, so marks that take their slots from it had no proof.
     // Writes the marks at a place into a slice from some element on, and says how far.
     fn write_at(&self, place: usize, out: &mut [(usize, usize)], from: usize) -> usize
         requires inside { place < length (view T.Meant.meaning self.now).look.marks }

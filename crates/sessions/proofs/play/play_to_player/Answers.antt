@@ -1,5 +1,4 @@
 -- The player holds what `play` left.
-use Rattle.trees.specs.Forest.{Forest}
 use Rattle.sessions.proofs.Playing.{foreign_left}
 use Rattle.sessions.proofs.play.play_to_player.Goals as goal
 

@@ -1,5 +1,5 @@
 -- The last click's count is raised, and the change is noted behind the others.
-use Rattle.std.proofs.Common.{◌≡◌, ◌+◌, ◌-◌, ◌<◌, true, length, get_or, set, Some, vec_items, vec_len, sum_by, Option, MutBor, IfSome, sym, ap, ◌∙◌, subst, arith, rules}
+use Rattle.std.proofs.Common.{◌≡◌, ◌+◌, ◌-◌, ◌<◌, true, length, get_or, set, Some, vec_items, vec_len, sum_by, Option, MutBor, IfSome, ap, ◌∙◌, subst, arith, rules}
 use Rattle.std.proofs.lemmas.List.Sums.{sum_by-set}
 use Rattle.sessions.specs.declared.entry.Click.{Click}
 use Rattle.sessions.specs.declared.journal.Journal.{Journal as Tables}

@@ -1,9 +1,17 @@
--- A place outside is not noted, and the definition leaves it too.
-use Rattle.std.proofs.Common.{Bool, true, List, vec_items, sym, ap, arith}
-use Rattle.std.proofs.lemmas.List.{set_past}
+-- The place is touched, and its row stays.
+use Rattle.std.proofs.Common.{◌≡◌, ℕ, Bool, true, List, vec_items, ap}
+use Rattle.std.proofs.lemmas.List.{map-set}
+use Rattle.std.proofs.Math.Seq.{map-set_same}
+use Rattle.runs.specs.Session.{Marks}
+use Rattle.sessions.specs.declared.marks.Mark.{Mark}
 use Rattle.sessions.proofs.marks.Marks.touch.Goals as goal
 
-pub returns-then-place-len : goal.returns-then-place-len
-returns-then-place-len c =
+same : (n : ℕ) {t u : List Bool} {r s : List (List Bool)} → t ≡ u → r ≡ s → ◌≡◌ {A = Marks} (record { tried = n; touched = t; marks = r; stale = true }) (record { tried = n; touched = u; marks = s; stale = true })
+same n a b = λ i. record { tried = n; touched = a i; marks = b i; stale = true }
+
+pub returns-in-Some : goal.returns-in-Some
+returns-in-Some c =
     let k = c.args.self.now in
-    ap (λ (t : List Bool). record { tried = k.tried; touched = t; marks = vec_items k.rows; stale = true }) (sym (set_past (vec_items k.touched) c.args.place true (omega (arith, k.touched.ok.0))))
+    same k.tried
+    (map-set (λ (m : Mark). m.touched) (vec_items k.places) c.args.place _)
+    (map-set_same (λ (m : Mark). m.matched) (vec_items k.places) c.args.place _ c.in-Some.mark.now (ap (λ (m : Mark). m.matched) c.in-Some.ensures.value))

@@ -1,10 +1,10 @@
 -- The receipt was in the hand, and what comes back is put there again.
-use Rattle.std.proofs.Common.{◌≡◌, Some, Ok, Err, MatchOption, Option, sym, refl, ap, ◌∙◌, subst}
+use Rattle.std.proofs.Common.{◌≡◌, Some, MatchOption, Option, refl, ap, ◌∙◌, subst}
 use Rattle.sessions.specs.declared.call.Hand.{Hand}
 use Rattle.sessions.specs.declared.call.Hand.TheVariants.{Own, Foreign}
 use Rattle.sessions.specs.declared.call.Hands.{Hands}
 use Rattle.sessions.specs.declared.receipt.Receipt.{Receipt}
-use Rattle.sessions.specs.Lent.{in_the_hand, with_hand, SpentBy}
+use Rattle.sessions.specs.Lent.{with_hand}
 use Rattle.sessions.proofs.player.Player.spend.Goals as goal
 
 held_some : (P : Type 0) (Q : Receipt → Type 0) (o : Option Receipt) (k : Receipt) → Some k ≡ o → Q k → MatchOption o P Q

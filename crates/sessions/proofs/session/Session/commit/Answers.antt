@@ -1,5 +1,5 @@
 -- The open click stays, with none open.
-use Rattle.std.proofs.Common.{◌≡◌, ◌<◌, true, false, length, vec_items, sym, ap, ◌∙◌, arith}
+use Rattle.std.proofs.Common.{◌≡◌, true, false, sym, ap, ◌∙◌}
 use Rattle.std.proofs.lemmas.Bool.{cond-false}
 use Rattle.runs.specs.Session.{Journal, done, wrong}
 use Rattle.sessions.specs.Journals.{clicks_of}

@@ -1,27 +1,16 @@
--- The marks of one place more.
-use Rattle.std.proofs.Common.{◌≡◌, ◌≤◌, length, vec_items, refl, ap, ◌∙◌, arith}
+-- The marks of the rows are the findings.
+use Rattle.std.proofs.Common.{ℕ, ◌≤◌, length, vec_items, sum_by, sym, ap, ◌∙◌, arith}
 use Rattle.std.proofs.lemmas.List.{length-map}
 use Rattle.patterns.specs.Elements.{elements_of}
-use Rattle.runs.specs.Session.{State, marked}
+use Rattle.runs.specs.Session.{State}
 use Rattle.sessions.specs.View.{view}
-use Rattle.sessions.proofs.Scanned.{counted_place, few_marked}
+use Rattle.sessions.proofs.Scanned.{hits, counted_all}
+use Rattle.sessions.proofs.Tried.{rows_wide}
 use Rattle.sessions.proofs.session.Session.count_marks.Goals as goal
-
-pub loop-place-init : goal.loop-place-init
-loop-place-init g c = refl
-
-pub overflow_add-count : goal.overflow_add-count
-overflow_add-count g c =
-    let v : State = view g.T.Meant.meaning c.args.self.now in
-    let s = c.args.self.now.shelf in
-    let few : length v.patterns ≤ 16 = omega (arith, length-map (vec_items s.rows) elements_of, s.rows.ok.0, s.few) in
-    omega (arith, c.loop-place.invariant, few_marked v c.loop-place.place few, c.count_at-count.ensures.1, c.places-places.ensures.1)
-
-pub loop-place-preserved : goal.loop-place-preserved
-loop-place-preserved g c = omega (arith, c.loop-place.invariant, c.count_at-count.ensures.0, counted_place (view g.T.Meant.meaning c.args.self.now) c.loop-place.place)
 
 pub returns : goal.returns
 returns g c =
     let v : State = view g.T.Meant.meaning c.args.self.now in
-    let e : c.loop-place.place ≡ length v.look.marks = omega (arith, c.places-places.ensures.0, c.loop-place.auto.place-end, c.loop-place-test.false) in
-    c.loop-place.invariant ∙ ap (λ n. length (marked v n)) e
+    let s = c.args.self.now.shelf in
+    let few : length v.patterns ≤ 16 = omega (arith, length-map (vec_items s.rows) elements_of, s.rows.ok.0, s.few) in
+    c.count-2.ensures ∙ ap (λ (n : ℕ). sum_by (hits n) v.look.marks) c.count.ensures.0 ∙ sym (counted_all v (λ i h. omega (arith, few, rows_wide (vec_items c.args.self.now.marks.places) i h)))

@@ -1,5 +1,5 @@
 -- The first mark is the first finding.
-use Rattle.std.proofs.Common.{rules, sym, ap, ◌∙◌}
+use Rattle.std.proofs.Common.{rules, ap, ◌∙◌}
 use Rattle.runs.specs.Session.{State, Answer, first_finding}
 use Rattle.std.specs.Option.{ok_or}
 use Rattle.sessions.specs.View.{view, found_answer}
