@@ -22,8 +22,9 @@ impl<'a> Book<'a> {
         ensures check { result.1 ≡ counted (read_book bytes.now) }
         ensures law { Judged bytes.now result.1 }
     {
-        match Index::read(bytes) {
-            Ok(index) => {
+        let mut index = Index::new(bytes);
+        match index.read() {
+            Ok(()) => {
                 let count = index.count();
                 (Book { index }, Ok(count))
             }

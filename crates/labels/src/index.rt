@@ -167,18 +167,20 @@ impl<'a> Index<'a> {
         Ok(at + 6 + entry.name.len())
     }
 
-    /// The index of all records of a book, or its first fault.
-    pub(crate) fn read(bytes: &'a [u8]) -> Result<Index<'a>, Refusal>
-        ensures { MatchResult result (λ x. (x.bytes.now ≡ bytes.now) × (read_book bytes.now ≡ Ok (known x.tables))) (λ f. read_book bytes.now ≡ Err f) }
+    /// Reads all records of the book, behind none, up to its first fault.
+    // Kept as a method on an index that the caller has made: handing the index out in a `Result` takes its tables on the stack once more for each hand.
+    pub(crate) fn read(&mut self) -> Result<(), Refusal>
+        requires { self.old.tables.count ≡ 0 }
+        ensures same { self.new.bytes.now ≡ self.old.bytes.now }
+        ensures read { MatchResult result (λ _. read_book self.old.bytes.now ≡ Ok (known self.new.tables)) (λ f. read_book self.old.bytes.now ≡ Err f) }
     {
-        let mut index = Index::new(bytes);
         let mut at = 0;
         // Kept as `while`: each record says where the next one starts, so there is nothing to go over.
-        while at < bytes.len() {
-            at = index
+        while at < self.bytes.len() {
+            at = self
                 .read_record(at)
                 .map_err(|cause| Refusal::at(cause, Layer::Book, at))?;
         }
-        Ok(index)
+        Ok(())
     }
 }

@@ -6,9 +6,9 @@ use Rattle.labels.proofs.index.Index.read.Given as goal
 
 abbrev pub invariant-loop-at : goal.invariant-loop-at
 invariant-loop-at l = record {
-  bytes : l.index.bytes.now ≡ l.bytes;
-  underway : Underway l.bytes (known l.index.tables) l.at;
+  bytes : l.self.bytes.now ≡ l.fn.self.bytes.now;
+  underway : Underway l.fn.self.bytes.now (known l.self.tables) l.at;
 }
 
 abbrev pub decreases-loop-at : goal.decreases-loop-at
-decreases-loop-at l = length l.bytes - l.at
+decreases-loop-at l = length l.fn.self.bytes.now - l.at
