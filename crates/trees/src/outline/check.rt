@@ -1,5 +1,5 @@
 // The check of an outline's records.
-ghost use Rattle.std.specs.Prelude.{◌≡◌, ◌<◌, ◌≤◌};
+ghost use Rattle.std.specs.Prelude.{◌≡◌, ◌<◌, ◌≤◌, None, Some, MatchResult};
 ghost use Rattle.trees.specs.Outlines.{record_fault, outline_answer};
 ghost use Rattle.trees.specs.Laws.{TakesOutlines};
 
@@ -7,20 +7,20 @@ use crate::limits::{MAX_DEPTH, MAX_LABEL, MAX_PLACES};
 use crate::record::Record;
 use refusals::{Cause, Layer, Refusal};
 
-/// What is wrong with the record of a number whose depth may be up to a limit.
-fn fault(number: usize, limit: u16, record: Record) -> Option<Cause>
-    ensures { result ≡ record_fault number limit «record» }
+/// Checks the record of a number, whose depth may be up to a limit.
+fn check_record(number: usize, limit: u16, record: Record) -> Result<(), Cause>
+    ensures { MatchResult result (λ _. record_fault number limit «record» ≡ None) (λ cause. record_fault number limit «record» ≡ Some cause) }
 {
     if number > 0 && record.depth == 0 {
-        Some(Cause::OneTree)
+        Err(Cause::OneTree)
     } else if record.depth > limit {
-        Some(Cause::BadLength)
+        Err(Cause::BadLength)
     } else if record.label > MAX_LABEL {
-        Some(Cause::BadLabel)
+        Err(Cause::BadLabel)
     } else if number >= MAX_PLACES || record.depth > MAX_DEPTH {
-        Some(Cause::TooMany)
+        Err(Cause::TooMany)
     } else {
-        None
+        Ok(())
     }
 }
 
@@ -34,10 +34,10 @@ pub fn check_outline(records: &[Record]) -> Result<usize, Refusal>
     }
     let mut limit = 0u16;
     for (i, entry) in records.iter().enumerate() {
-        if let Some(cause) = fault(i, limit, *entry) {
-            return Err(Refusal::at(cause, Layer::Tree, i));
+        match check_record(i, limit, *entry) {
+            Ok(()) => limit = entry.depth + 1,
+            Err(cause) => return Err(Refusal::at(cause, Layer::Tree, i)),
         }
-        limit = entry.depth + 1;
     }
     Ok(records.len())
 }

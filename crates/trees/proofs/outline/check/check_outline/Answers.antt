@@ -6,19 +6,19 @@ use Rattle.trees.specs.Faults.{outline_stops, outline_passes, fine}
 use Rattle.trees.proofs.OutlineOf.{takes_outlines}
 use Rattle.trees.proofs.outline.check.check_outline.Goals as goal
 
-pub returns-in-Some : goal.returns-in-Some
-returns-in-Some c =
+pub returns-in-Err : goal.returns-in-Err
+returns-in-Err c =
     let rs = c.args.records.now in
     let i = c.loop-i.i in
-    let here : outline_fault rs i ≡ Some c.in-Some.cause = ap (λ l. record_fault i l (get_or rs i no_record)) (sym c.loop-i.invariant.1) ∙ sym c.in-Some.ensures in
-    let value = ap Err c.at-in-Some.ensures ∙ sym (outline_stops rs i c.in-Some.cause c.loop-i.invariant.0 c.loop-i-test.true here) in
+    let here : outline_fault rs i ≡ Some c.in-Err.cause = ap (λ l. record_fault i l (get_or rs i no_record)) (sym c.loop-i.invariant.1) ∙ c.in-Err.ensures in
+    let value = ap Err c.at-in-Err.ensures ∙ sym (outline_stops rs i c.in-Err.cause c.loop-i.invariant.0 c.loop-i-test.true here) in
     record { value = value; exact = takes_outlines rs _ value }
 
 pub loop-i-preserved : goal.loop-i-preserved
 loop-i-preserved c =
     let rs = c.args.records.now in
     let i = c.loop-i.i in
-    let here : outline_fault rs i ≡ None = ap (λ l. record_fault i l (get_or rs i no_record)) (sym c.loop-i.invariant.1) ∙ sym c.in_default.ensures in
+    let here : outline_fault rs i ≡ None = ap (λ l. record_fault i l (get_or rs i no_record)) (sym c.loop-i.invariant.1) ∙ c.in-Ok.ensures in
     let f = fine i (depth_limit rs i) (get_or rs i no_record) here in
     (below_more _ _ c.loop-i.invariant.0 here, sym (ap (depth_limit rs) (add-one i)), omega (arith, f.low))
 
