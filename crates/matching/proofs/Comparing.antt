@@ -1,8 +1,8 @@
 -- Two subtrees, compared pair by pair.
-use Rattle.std.proofs.Common.{◌≡◌, ℕ, ◌+◌, ◌<◌, Bool, true, false, ◌&&◌, not, eqb, [], ◌∷◌, length, get_or, sym, refl, ap, ◌∙◌, ⊎_elim, add-zero, arith}
+use Rattle.std.proofs.Common.{◌≡◌, ℕ, ◌+◌, ◌<◌, Bool, true, false, ◌&&◌, not, eqb, ◌∷◌, length, get_or, sym, refl, ap, ◌∙◌, ⊎_elim, arith}
 use Rattle.std.proofs.lemmas.Bool.{and_parts, eqb-true, cases_lt, cond-true, cond-false}
 use Rattle.trees.specs.Forest.{Forest, no_node, size_at, label_at, subtree, same_node, same, compared}
-use Rattle.trees.specs.Windows.{win, win_none, win_cons, subtree_win, Sound, fits_whole}
+use Rattle.trees.specs.Windows.{win, win_cons, Sound, fits_whole}
 
 -- the test of two nodes by what is known of them
 pub nodes_tested : (m : Forest) (q p : ℕ) (k l x y : ℕ) (t : Bool) → k ≡ label_at m q → x ≡ size_at m q → l ≡ label_at m p → y ≡ size_at m p → t ≡ not (eqb k l && eqb x y) → same_node (get_or m q no_node) (get_or m p no_node) ≡ not t
@@ -23,16 +23,6 @@ pub record SoFar (m : Forest) (q p n : ℕ) : Type 0 where
   pub sized : 0 < n → size_at m q ≡ size_at m p
 
 module _ (m : Forest) (s : Sound m) (q p : ℕ) (h : q < length m) (k : p < length m) where
-  rest_none : (r : ℕ) → subtree m r ≡ rest m r 0
-  rest_none r = subtree_win m r ∙ ap (λ (i : ℕ). win m i (r + size_at m r)) (sym (add-zero r))
-
-  pub none_yet : SoFar m q p 0
-  none_yet = record {
-    alike = λ i. same (rest_none q i) (rest_none p i);
-    counted = ap (λ (i : ℕ). i) (λ i. compared (rest_none q i) (rest_none p i)) ∙ omega arith;
-    sized = λ z. absurd (omega arith);
-  }
-
   module _ (n : ℕ) (l : n < size_at m p) (so : SoFar m q p n) where
     pub there : n < size_at m q
     there = ⊎_elim (λ z. omega (arith, so.sized z)) (λ z. omega (arith, s.sizes q h)) (cases_lt 0 n)
@@ -64,10 +54,3 @@ module _ (m : Forest) (s : Sound m) (q p : ℕ) (h : q < length m) (k : p < leng
           so.alike ∙ (λ i. same (a i) (b i)) ∙ ap (λ t. t && same (rest m q (n + 1)) (rest m p (n + 1))) e,
           so.counted ∙ ap (λ (x : ℕ). n + x) ((λ i. compared (a i) (b i)) ∙ cond-false _ (1 + compared (rest m q (n + 1)) (rest m p (n + 1))) 1 e),
         )
-
-  pub all_alike : SoFar m q p (size_at m p) → (same (subtree m q) (subtree m p) ≡ true) × (compared (subtree m q) (subtree m p) ≡ size_at m p)
-  all_alike so =
-      let z : size_at m q ≡ size_at m p = so.sized (s.sizes p k) in
-      let a : rest m q (size_at m p) ≡ [] = win_none m (q + size_at m p) (q + size_at m q) (omega arith) in
-      let b : rest m p (size_at m p) ≡ [] = win_none m (p + size_at m p) (p + size_at m p) (omega arith) in
-      (so.alike ∙ (λ i. same (a i) (b i)), so.counted ∙ ap (λ (x : ℕ). size_at m p + x) (λ i. compared (a i) (b i)) ∙ add-zero (size_at m p))

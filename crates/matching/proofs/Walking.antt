@@ -1,18 +1,18 @@
 -- One rule after the other, as the code takes them.
-use Rattle.std.proofs.Common.{◌≡◌, ℕ, suc, ◌+◌, ◌-◌, ◌*◌, ◌<◌, ◌≤◌, cond, ltb, ◌⊎◌, List, [], ◌∷◌, length, get_or, take, drop, Some, None, sym, ap, ◌∙◌, subst, inl, inr, ⊎_elim, arith, length-drop}
+use Rattle.std.proofs.Common.{◌≡◌, ℕ, ◌+◌, ◌-◌, ◌*◌, ◌<◌, ◌≤◌, cond, ltb, ◌⊎◌, List, length, get_or, take, drop, Some, None, sym, ap, ◌∙◌, subst, inl, inr, ⊎_elim, arith, length-drop}
 use lib.Seq.{take-length}
 use Rattle.trees.specs.Forest.{Forest, Law, size_at, label_at}
 use Rattle.trees.specs.Windows.{win, Sound, sound, Fits, fits_later}
 use Rattle.patterns.specs.declared.row.Element.{Element}
 use Rattle.matching.specs.declared.found.Match.{Match}
 use Rattle.matching.specs.declared.rule.Rule.{Rule}
-use Rattle.matching.specs.declared.rule.Rule.TheVariants.{Done, Stuck, BothGo, BindBeforeLexeme, BindBeforeInner, BindLast, Enter, Open}
-use Rattle.matching.specs.Rules.{Bindings, Outcome, tick, settled, after, bind, choose_none, choose_inner, choose_leaf, by_rule, walks}
+use Rattle.matching.specs.declared.rule.Rule.TheVariants.{Stuck, BothGo, BindBeforeLexeme, BindBeforeInner, BindLast, Enter, Open}
+use Rattle.matching.specs.Rules.{Bindings, Outcome, tick, settled, after, bind, choose_inner, choose_leaf, by_rule, walks}
 use Rattle.matching.specs.Levels.{Level}
-use Rattle.matching.proofs.Winning.{choose_some, choose_nothing}
+use Rattle.matching.proofs.Winning.{choose_some}
 use Rattle.matching.proofs.Fuel.{walks_step}
 use Rattle.matching.proofs.Choosing.{Suited, suited}
-use Rattle.matching.proofs.Bound.{tick_tick, tick_settled, tick_fails, goes_on, bind_after}
+use Rattle.matching.proofs.Bound.{tick_tick, tick_fails, goes_on, bind_after}
 use Rattle.matching.proofs.Wholes.{level_drop}
 
 -- where a level has come: what was to be found is what is still to be found, after the steps so far
@@ -85,9 +85,6 @@ module _ {m : Forest} {n : ℕ} {o : Outcome} {most : ℕ} {es : List Element} {
     follows : (q found : Outcome) (k : Bindings → Outcome) → found ≡ tick (a.steps + 1) q → tick a.steps (tick 1 (after q k)) ≡ after found k
     follows q found k i = tick_tick a.steps 1 (after q k) ∙ goes_on (a.steps + 1) q found k i
 
-  pub was_done : Turn m n o most es p e a l z Done → went a ≡ tick n o
-  was_done t = sym (by_chosen t ∙ tick_settled a.steps a.places)
-
   pub was_stuck : Turn m n o most es p e a l z Stuck → missed a ≡ tick n o
   was_stuck t = sym (by_chosen t ∙ tick_fails a.steps)
 
@@ -155,25 +152,6 @@ module _ {m : Forest} {n : ℕ} {o : Outcome} {most : ℕ} {es : List Element} {
 
     pub not_entered : GroupMatch (missed d) → missed d ≡ tick n o
     not_entered i = sym (group_follows (missed d) i)
-
--- where no node is left
-module _ {m : Forest} {n : ℕ} {o : Outcome} {most : ℕ} {es : List Element} {p e : ℕ} {a : Match} (s : Sound m) (so : Reached m n o most es p e a) (h : e ≤ p) where
-  ends_at : tick n o ≡ tick a.steps (by_rule (walks m) m es p (size_at m p) e a.places (choose_none es))
-  ends_at = so.goes ∙ ap (tick a.steps) (walks_step m s es p e a.places so.fit ∙ ap (by_rule (walks m) m es p (size_at m p) e a.places) (choose_nothing m es p e h))
-
-  pub all_read : length es ≡ 0 → went a ≡ tick n o
-  all_read z = sym (ends_at ∙ go es z)
-    where
-      go : (fs : List Element) → length fs ≡ 0 → tick a.steps (by_rule (walks m) m es p (size_at m p) e a.places (choose_none fs)) ≡ went a
-      go [] i = tick_settled a.steps a.places
-      go (f ∷ fs) i = let y : suc (length fs) ≡ 0 = i in absurd (omega arith)
-
-  pub some_left : 0 < length es → missed a ≡ tick n o
-  some_left z = sym (ends_at ∙ go es z)
-    where
-      go : (fs : List Element) → 0 < length fs → tick a.steps (by_rule (walks m) m es p (size_at m p) e a.places (choose_none fs)) ≡ missed a
-      go [] i = absurd (omega arith)
-      go (f ∷ fs) i = tick_fails a.steps
 
 -- all that is behind the first n elements
 pub rest_all : (n : ℕ) (es : List Element) → take (length es - n) (drop n es) ≡ drop n es

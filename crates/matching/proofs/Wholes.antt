@@ -2,11 +2,8 @@
 use Rattle.std.proofs.Common.{◌≡◌, ℕ, ◌+◌, ◌-◌, ◌<◌, ◌≤◌, List, length, take, drop, sym, ap, ◌∙◌, subst, arith, length-drop, length-take-le, get_or-drop, get_or-take}
 use Rattle.patterns.specs.declared.row.Element.{Element}
 use Rattle.patterns.specs.declared.row.Element.TheVariants.{Lexeme, Group}
-use Rattle.patterns.specs.Elements.{extent, least_extent, number_of, element_at, ends, WellFormed}
+use Rattle.patterns.specs.Elements.{extent, least_extent, number_of, element_at, ends}
 use Rattle.matching.specs.Levels.{Level}
-
-pub level_formed : (es : List Element) → WellFormed es → Level es
-level_formed es h i k = let s = h.each i k in record { numbered = s.numbered; sized = s.sized; inside = s.inside; nested = s.nested }
 
 -- a level whose elements are those of another from a place on is one
 moved : (es fs : List Element) (n : ℕ) → ((i : ℕ) → i < length fs → element_at fs i ≡ element_at es (n + i)) → n + length fs ≤ length es → ((i : ℕ) → i < length fs → ends es (n + i) ≤ n + length fs) → Level es → Level fs

@@ -12,6 +12,7 @@ impl Pattern {
         ensures test { Decides (is_some result) (IsPattern row) }
         ensures same { IfSome result (λ p. p.row ≡ row) }
     {
+        // Kept as an `if`: in a closure handed to `then` the facts of the type found no proof.
         if is_pattern(&row) {
             Some(Pattern { row })
         } else {
