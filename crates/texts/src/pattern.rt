@@ -39,10 +39,7 @@ pub fn read_pattern(book: &[u8], text: &[u8]) -> Result<Pattern, Refusal>
     let (book, checked) = Book::open(book);
     checked?;
     let elements = read_elements(&book, text)?;
-    match Pattern::from_row(elements.row) {
-        Some(pattern) => Ok(pattern),
-        None => unreachable(),
-    }
+    Ok(Pattern::from_row(elements.row).unwrap())
 }
 
 /// The name of a variable by its number, which is the part of the text where it first stands.

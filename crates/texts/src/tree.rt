@@ -30,11 +30,7 @@ fn write_nodes(book: &Book<'_>, text: &[u8], records: &mut [Record])
     let mut nodes = TreeReader::new(book, text);
     for slot in records.iter_mut() {
         // There are as many nodes as slots, so each slot has one.
-        match nodes.next_record() {
-            Ok(Some(record)) => *slot = record,
-            Ok(None) => unreachable(),
-            Err(_) => unreachable(),
-        }
+        *slot = nodes.next_record().unwrap().unwrap();
     }
 }
 

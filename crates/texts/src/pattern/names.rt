@@ -37,6 +37,7 @@ impl<'a> Names<'a> {
         ensures value { result ≡ number_for (names_in self.old) name.now }
         ensures names { names_in self.new ≡ names_with (names_in self.old) name.now }
     {
+        // Kept as casts, here and below: they are proved to lose nothing.
         if let Some(number) = self.find(name) {
             return Ok(number as u8);
         }

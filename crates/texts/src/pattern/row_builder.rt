@@ -9,6 +9,7 @@ use patterns::{Element, Row};
 use refusals::Cause;
 
 /// A row that counts no more elements than it has slots.
+// Kept as an array with a count: a pattern is made from a plain row, and no heap is used in reading.
 #[derive(Clone, Copy)]
 pub(crate) struct RowBuilder {
     pub(crate) row: Row,
@@ -55,6 +56,7 @@ impl RowBuilder {
         ensures elements { elements_of self.new.row ≡ slice_set (elements_of self.old.row) group (Group (self.old.row.count - group)) }
         ensures count { self.new.row.count ≡ self.old.row.count }
     {
+        // Kept as a cast: it is proved to lose nothing, and `try_from` would add a refusal that cannot come.
         let size = (self.row.count - group) as u8;
         self.row.elements[group] = Element::Group { size };
     }

@@ -1,5 +1,6 @@
 // The reading of tree text, node by node.
-ghost use Rattle.std.specs.Prelude.{◌≡◌, ◌<◌, false, [], None};
+ghost use Rattle.std.specs.Prelude.{◌≡◌, ◌<◌, false, [], None, Some, MatchResult};
+ghost use Rattle.refusals.specs.declared.Cause.{Cause};
 ghost use Rattle.texts.specs.Books.{entries_of};
 ghost use Rattle.texts.specs.Tokens.{next_token, tokens};
 ghost use Rattle.texts.specs.TreeText.{end_fault_lem, is_open, node_answer, sign_fault_lem, tree_fault, tree_scan};
@@ -85,17 +86,13 @@ impl<'a, 'b> TreeReader<'a, 'b> {
                     return Ok(Some(record));
                 }
                 Token::Sign(byte) => {
-                    if let Some(cause) = self.sign_fault(byte) {
-                        return Err(refusal(cause, start));
-                    }
+                    self.check_sign(byte, start)?;
                     self.depth -= 1;
                     self.empty = false;
                 }
                 Token::End => {
-                    return match self.end_fault() {
-                        Some(cause) => Err(refusal(cause, start)),
-                        None => Ok(None),
-                    };
+                    self.check_end(start)?;
+                    return Ok(None);
                 }
                 Token::Variable { .. } | Token::GroupOpen | Token::GroupClose | Token::Fault => {
                     return Err(refusal(Cause::BadText, start));
@@ -108,9 +105,10 @@ impl<'a, 'b> TreeReader<'a, 'b> {
     fn node(&self, name: &[u8], start: usize) -> Result<Record, Refusal>
         ensures { result ≡ node_answer (entries_of self.now.book.now) self.now.depth self.now.count name.now start }
     {
-        let Some(label) = self.book.label(name) else {
-            return Err(refusal(Cause::UnknownName, start));
-        };
+        let label = self
+            .book
+            .label(name)
+            .ok_or(refusal(Cause::UnknownName, start))?;
         if self.depth == 0 && self.count > 0 {
             return Err(refusal(Cause::OneTree, start));
         }
@@ -123,30 +121,29 @@ impl<'a, 'b> TreeReader<'a, 'b> {
         })
     }
 
-    // What is wrong with the end of the text.
-    fn end_fault(&self) -> Option<Cause>
-        ensures { result ≡ end_fault_lem self.now.depth self.now.count }
+    // Refuses the end of the text, whose token starts at a byte, where no tree or an open one stands before it.
+    fn check_end(&self, start: usize) -> Result<(), Refusal>
+        ensures { MatchResult result (λ _. end_fault_lem self.now.depth self.now.count ≡ None) (λ f. (cause : Cause) × (end_fault_lem self.now.depth self.now.count ≡ Some cause) × (f ≡ tree_fault cause start)) }
     {
         if self.depth > 0 {
-            return Some(Cause::Unpaired);
+            return Err(refusal(Cause::Unpaired, start));
         }
         if self.count == 0 {
-            return Some(Cause::OneTree);
+            return Err(refusal(Cause::OneTree, start));
         }
-        None
+        Ok(())
     }
 
-    // What is wrong with a single byte.
-    fn sign_fault(&self, byte: u8) -> Option<Cause>
-        ensures value { result ≡ sign_fault_lem byte self.now.depth self.now.empty }
-        ensures open { result ≡ None → 0 < self.now.depth }
+    // Refuses a single byte, whose token starts there, unless it closes a node that is not empty.
+    fn check_sign(&self, byte: u8, start: usize) -> Result<(), Refusal>
+        ensures { MatchResult result (λ _. (sign_fault_lem byte self.now.depth self.now.empty ≡ None) × (0 < self.now.depth)) (λ f. (cause : Cause) × (sign_fault_lem byte self.now.depth self.now.empty ≡ Some cause) × (f ≡ tree_fault cause start)) }
     {
         if byte != b')' {
-            return Some(Cause::BadText);
+            return Err(refusal(Cause::BadText, start));
         }
         if self.depth == 0 || self.empty {
-            return Some(Cause::Unpaired);
+            return Err(refusal(Cause::Unpaired, start));
         }
-        None
+        Ok(())
     }
 }

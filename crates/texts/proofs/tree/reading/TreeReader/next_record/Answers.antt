@@ -64,13 +64,17 @@ returns-in-Quoted c =
       omega (arith, v.left, f),
     )
 
-pub returns-in-Some : goal.returns-in-Some
-returns-in-Some c rs l =
+pub returns-in_err-check_sign-in-Sign : goal.returns-in_err-check_sign-in-Sign
+returns-in_err-check_sign-in-Sign c =
     let e = c.next-token.ensures in
     let v = c.loop-name.invariant in
+    let q = c.in_err-check_sign-in-Sign.ensures in
+    let f = err_from_is_err_and c.from_residual-in_err-check_sign-in-Sign.result c.from_residual-in_err-check_sign-in-Sign.ensures.1 in
+    rw (f.1, f.2)
+    (λ rs l.
     v.same rs l
-    ∙ sign_at_fault c.loop-name.self c.next-token.new.self c.start-start.result e.same (c.start-start.ensures ∙ e.start) e.moved rs (l ∙ sym v.count) c.in-Sign.byte c.in-Some.cause c.in-Sign.ensures.token (sym c.in-Some.ensures.value)
-    ∙ ap Err (sym c.refusal-in-Some.ensures)
+    ∙ sign_at_fault c.loop-name.self c.next-token.new.self c.start-start.result e.same (c.start-start.ensures ∙ e.start) e.moved rs (l ∙ sym v.count) c.in-Sign.byte q.0 c.in-Sign.ensures.token q.1
+    ∙ ap Err (sym q.2))
 
 pub loop-name-smaller : goal.loop-name-smaller
 loop-name-smaller c =
@@ -85,24 +89,28 @@ loop-name-preserved c =
     record {
       same = λ rs l.
           v.same rs l
-          ∙ sign_on c.loop-name.self c.next-token.new.self c.start-start.result e.same (c.start-start.ensures ∙ e.start) e.moved rs (l ∙ sym v.count) c.in-Sign.byte c.in-Sign.ensures.token (sym c.in_default.ensures.value);
+          ∙ sign_on c.loop-name.self c.next-token.new.self c.start-start.result e.same (c.start-start.ensures ∙ e.start) e.moved rs (l ∙ sym v.count) c.in-Sign.byte c.in-Sign.ensures.token c.in_ok-check_sign-in-Sign.ensures.0;
       count = v.count;
       left = omega (arith, v.left, f);
     }
 
-pub returns-in-Some-end_fault : goal.returns-in-Some-end_fault
-returns-in-Some-end_fault c rs l =
+pub returns-in_err-check_end-in-End : goal.returns-in_err-check_end-in-End
+returns-in_err-check_end-in-End c =
     let e = c.next-token.ensures in
     let v = c.loop-name.invariant in
+    let q = c.in_err-check_end-in-End.ensures in
+    let f = err_from_is_err_and c.from_residual-in_err-check_end-in-End.result c.from_residual-in_err-check_end-in-End.ensures.1 in
+    rw (f.1, f.2)
+    (λ rs l.
     v.same rs l
-    ∙ end_at_fault c.loop-name.self c.next-token.new.self c.start-start.result e.same (c.start-start.ensures ∙ e.start) e.moved rs (l ∙ sym v.count) c.in-Some-end_fault.cause c.in-End.ensures.token (sym c.in-Some-end_fault.ensures)
-    ∙ ap Err (sym c.refusal-in-Some-end_fault.ensures)
+    ∙ end_at_fault c.loop-name.self c.next-token.new.self c.start-start.result e.same (c.start-start.ensures ∙ e.start) e.moved rs (l ∙ sym v.count) q.0 c.in-End.ensures.token q.1
+    ∙ ap Err (sym q.2))
 
-pub returns-in-None : goal.returns-in-None
-returns-in-None c =
+pub returns-in-End : goal.returns-in-End
+returns-in-End c =
     let e = c.next-token.ensures in
     let v = c.loop-name.invariant in
-    (λ rs l. v.same rs l ∙ done c.loop-name.self c.next-token.new.self c.start-start.result e.same (c.start-start.ensures ∙ e.start) e.moved rs (l ∙ sym v.count) c.in-End.ensures.token (sym c.in-None.ensures), v.count)
+    (λ rs l. v.same rs l ∙ done c.loop-name.self c.next-token.new.self c.start-start.result e.same (c.start-start.ensures ∙ e.start) e.moved rs (l ∙ sym v.count) c.in-End.ensures.token c.in_ok-check_end-in-End.ensures, v.count)
 
 pub returns-in-Variable : goal.returns-in-Variable
 returns-in-Variable c rs l =
