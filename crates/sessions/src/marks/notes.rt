@@ -10,7 +10,8 @@ impl Mark {
     // How many of the first patterns are marked at the place.
     fn count(&self, patterns: usize) -> usize
         requires { patterns ≤ 16 }
-        ensures { result ≡ count_by (λ (b : Bool). b) (take patterns self.now.matched) }
+        ensures value { result ≡ count_by (λ (b : Bool). b) (take patterns self.now.matched) }
+        ensures few { result ≤ 16 }
     {
         self.matched[..patterns].iter().filter(|hit| **hit).count()
     }
@@ -61,11 +62,7 @@ impl Marks {
         requires { patterns ≤ 16 }
         ensures { result ≡ sum_by (λ (r : List Bool). count_by (λ (b : Bool). b) (take patterns r)) (marks_view self.now).marks }
     {
-        let mut count = 0;
-        for mark in &self.places {
-            count += mark.count(patterns);
-        }
-        count
+        self.places.iter().map(|mark| mark.count(patterns)).sum()
     }
 
     /// Notes that a place is touched, and that the marks are stale.
