@@ -17,69 +17,69 @@ pub same_label : (e : Entry) (es : List Entry) (l : ℕ) → e.label ≡ l → n
 same_label e es l h = rw (eq-eqb e.label l h)
 
 -- records with other labels are passed over
-passes : (rs : List Record) (d : Record) (l m n : ℕ) → m ≤ n → n ≤ length rs → ((k : ℕ) → m ≤ k → k < n → (get_or rs k d).entry.label ≡ l → ⊥) → name_of (noted rs n) l ≡ name_of (noted rs m) l
-passes rs d l m zero h u o = let z : m ≡ 0 = omega arith in ap (λ (k : ℕ). name_of (noted rs k) l) (sym z)
-passes rs d l m (suc n) h u o = ⊎_elim
-    (λ (z : m ≡ suc n). ap (λ (k : ℕ). name_of (noted rs k) l) (sym z))
-    (λ z. let e = entry_of (get_or rs n d) in ⊎_elim
+passes : (bs : List ℕ) (rs : List Record) (d : Record) (l m n : ℕ) → m ≤ n → n ≤ length rs → ((k : ℕ) → m ≤ k → k < n → (get_or rs k d).label ≡ l → ⊥) → name_of (noted bs rs n) l ≡ name_of (noted bs rs m) l
+passes bs rs d l m zero h u o = let z : m ≡ 0 = omega arith in ap (λ (k : ℕ). name_of (noted bs rs k) l) (sym z)
+passes bs rs d l m (suc n) h u o = ⊎_elim
+    (λ (z : m ≡ suc n). ap (λ (k : ℕ). name_of (noted bs rs k) l) (sym z))
+    (λ z. let e = entry_of bs (get_or rs n d) in ⊎_elim
     (λ t. absurd (o n (omega (arith, z)) (omega arith) (eqb-true e.label l t)))
-    (λ f. ap (λ (es : List Entry). name_of es l) (noted_more rs n d (omega arith)) ∙ cond-false (eqb e.label l) (Some e.name) (name_of (noted rs n) l) f ∙ passes rs d l m n (omega (arith, z)) (omega arith) (λ k a b. o k a (omega arith)))
+    (λ f. ap (λ (es : List Entry). name_of es l) (noted_more bs rs n d (omega arith)) ∙ cond-false (eqb e.label l) (Some e.name) (name_of (noted bs rs n) l) f ∙ passes bs rs d l m n (omega (arith, z)) (omega arith) (λ k a b. o k a (omega arith)))
     (cases_Bool (eqb e.label l)))
     (cases_eq m (suc n))
 
-pub passes_all : (rs : List Record) (l m n : ℕ) → m ≤ n → n ≤ length rs → ((k : ℕ) (d : Record) → m ≤ k → k < n → (get_or rs k d).entry.label ≡ l → ⊥) → name_of (noted rs n) l ≡ name_of (noted rs m) l
-passes_all [] l m n h u o = let z : n ≡ m = omega arith in ap (λ (k : ℕ). name_of (noted [] k) l) z
-passes_all (r ∷ rs) l m n h u o = passes (r ∷ rs) r l m n h u (λ k. o k r)
+pub passes_all : (bs : List ℕ) (rs : List Record) (l m n : ℕ) → m ≤ n → n ≤ length rs → ((k : ℕ) (d : Record) → m ≤ k → k < n → (get_or rs k d).label ≡ l → ⊥) → name_of (noted bs rs n) l ≡ name_of (noted bs rs m) l
+passes_all bs [] l m n h u o = let z : n ≡ m = omega arith in ap (λ (k : ℕ). name_of (noted bs [] k) l) z
+passes_all bs (r ∷ rs) l m n h u o = passes bs (r ∷ rs) r l m n h u (λ k. o k r)
 
-all_below : (rs : List Record) (d : Record) (l n : ℕ) → n ≤ length rs → AllByRecursion (λ (e : Entry). e.label < l) (noted rs n) → (k : ℕ) → k < n → (get_or rs k d).entry.label < l
-all_below rs d l zero u a k h = absurd (omega arith)
-all_below rs d l (suc n) u a k h =
-    let b = subst (AllByRecursion (λ (e : Entry). e.label < l)) (noted_more rs n d (omega arith)) a in
-    ⊎_elim (λ i. all_below rs d l n (omega arith) b.1 k i) (λ i. let z : n ≡ k = omega arith in subst (λ (j : ℕ). (get_or rs j d).entry.label < l) z b.0) (cases_lt k n)
+all_below : (bs : List ℕ) (rs : List Record) (d : Record) (l n : ℕ) → n ≤ length rs → AllByRecursion (λ (e : Entry). e.label < l) (noted bs rs n) → (k : ℕ) → k < n → (get_or rs k d).label < l
+all_below bs rs d l zero u a k h = absurd (omega arith)
+all_below bs rs d l (suc n) u a k h =
+    let b = subst (AllByRecursion (λ (e : Entry). e.label < l)) (noted_more bs rs n d (omega arith)) a in
+    ⊎_elim (λ i. all_below bs rs d l n (omega arith) b.1 k i) (λ i. let z : n ≡ k = omega arith in subst (λ (j : ℕ). (get_or rs j d).label < l) z b.0) (cases_lt k n)
 
 -- an earlier record has a lower label
-pub rises_at : (rs : List Record) (d : Record) (n : ℕ) → n ≤ length rs → Rising (noted rs n) → (i j : ℕ) → i < j → j < n → (get_or rs i d).entry.label < (get_or rs j d).entry.label
-rises_at rs d zero u r i j h k = absurd (omega arith)
-rises_at rs d (suc n) u r i j h k =
-    let s = subst Rising (noted_more rs n d (omega arith)) r in
+pub rises_at : (bs : List ℕ) (rs : List Record) (d : Record) (n : ℕ) → n ≤ length rs → Rising (noted bs rs n) → (i j : ℕ) → i < j → j < n → (get_or rs i d).label < (get_or rs j d).label
+rises_at bs rs d zero u r i j h k = absurd (omega arith)
+rises_at bs rs d (suc n) u r i j h k =
+    let s = subst Rising (noted_more bs rs n d (omega arith)) r in
     ⊎_elim
-    (λ b. rises_at rs d n (omega arith) s.1 i j h b)
-    (λ b. let z : n ≡ j = omega arith in subst (λ (x : ℕ). (get_or rs i d).entry.label < (get_or rs x d).entry.label) z (all_below rs d (get_or rs n d).entry.label n (omega arith) s.0 i (omega arith)))
+    (λ b. rises_at bs rs d n (omega arith) s.1 i j h b)
+    (λ b. let z : n ≡ j = omega arith in subst (λ (x : ℕ). (get_or rs i d).label < (get_or rs x d).label) z (all_below bs rs d (get_or rs n d).label n (omega arith) s.0 i (omega arith)))
     (cases_lt j n)
 
 index_rises : (x y l : ℕ) → x ≤ y → ordering_index (nat_cmp x l) ≤ ordering_index (nat_cmp y l)
 index_rises x y l h = grind (arith, nat_tests)
 
-module _ (rs : List Record) (n l : ℕ) (few : n ≤ length rs) (rising : Rising (noted rs n)) where
-  no_later : (d : Record) (i j : ℕ) → i ≤ j → j < n → (get_or rs i d).entry.label ≤ (get_or rs j d).entry.label
+module _ (bs : List ℕ) (rs : List Record) (n l : ℕ) (few : n ≤ length rs) (rising : Rising (noted bs rs n)) where
+  no_later : (d : Record) (i j : ℕ) → i ≤ j → j < n → (get_or rs i d).label ≤ (get_or rs j d).label
   no_later d i j h k = ⊎_elim
-      (λ (z : i ≡ j). omega (arith, ap (λ (x : ℕ). (get_or rs x d).entry.label) z))
-      (λ z. omega (arith, rises_at rs d n few rising i j (omega (arith, z)) k))
+      (λ (z : i ≡ j). omega (arith, ap (λ (x : ℕ). (get_or rs x d).label) z))
+      (λ z. omega (arith, rises_at bs rs d n few rising i j (omega (arith, z)) k))
       (cases_eq i j)
 
   -- the comparisons with a label rise along the records, as a binary search asks
-  comparisons_rise : IsNonDecreasingBy (λ (r : Record). ordering_index (nat_cmp r.entry.label l)) (take n rs)
+  comparisons_rise : IsNonDecreasingBy (λ (r : Record). ordering_index (nat_cmp r.label l)) (take n rs)
   comparisons_rise i j d h k =
       let under : j < n = omega (arith, length-take-le n rs few) in
-      let index : Record → ℕ = λ r. ordering_index (nat_cmp r.entry.label l) in
+      let index : Record → ℕ = λ r. ordering_index (nat_cmp r.label l) in
       let first : index (get_or (take n rs) i d) ≡ index (get_or rs i d) = ap index (get_or-take n rs i d (omega arith)) in
       let later : index (get_or (take n rs) j d) ≡ index (get_or rs j d) = ap index (get_or-take n rs j d under) in
-      let rise : index (get_or rs i d) ≤ index (get_or rs j d) = index_rises (get_or rs i d).entry.label (get_or rs j d).entry.label l (no_later d i j h under) in
+      let rise : index (get_or rs i d) ≤ index (get_or rs j d) = index_rises (get_or rs i d).label (get_or rs j d).label l (no_later d i j h under) in
       omega (arith, first, later, rise)
 
   -- a binary search ends at the label, or the label is not there
-  pub searched : (r : Result ℕ ℕ) → IsSearchInRange r (length (take n rs)) → IsBinarySearchResult (λ (x : Record). nat_cmp x.entry.label l) (take n rs) r → MatchResult r (λ i. (d : Record) → Some (get_or (take n rs) i d).entry.name.now ≡ name_of (noted rs n) l) (λ i. None ≡ name_of (noted rs n) l)
+  pub searched : (r : Result ℕ ℕ) → IsSearchInRange r (length (take n rs)) → IsBinarySearchResult (λ (x : Record). nat_cmp x.label l) (take n rs) r → MatchResult r (λ i. (d : Record) → Some (entry_of bs (get_or (take n rs) i d)).name ≡ name_of (noted bs rs n) l) (λ i. None ≡ name_of (noted bs rs n) l)
   searched (Ok i) within equal = λ d.
       let under : i < n = omega (arith, within, length-take-le n rs few) in
       let is = get_or-take n rs i d under in
-      let same : (get_or rs i d).entry.label ≡ l = sym (ap (λ (x : Record). x.entry.label) is) ∙ ranked _ l _ (sym (equal d)) in
-      sym (passes rs d l (suc i) n (omega arith) few (λ k a b e. omega (arith, rises_at rs d n few rising i k (omega arith) b))
-      ∙ ap (λ (es : List Entry). name_of es l) (noted_more rs i d (omega arith))
-      ∙ same_label (entry_of (get_or rs i d)) (noted rs i) l same
-      ∙ ap (λ (x : Record). Some x.entry.name.now) (sym is))
+      let same : (get_or rs i d).label ≡ l = sym (ap (λ (x : Record). x.label) is) ∙ ranked _ l _ (sym (equal d)) in
+      sym (passes bs rs d l (suc i) n (omega arith) few (λ k a b e. omega (arith, rises_at bs rs d n few rising i k (omega arith) b))
+      ∙ ap (λ (es : List Entry). name_of es l) (noted_more bs rs i d (omega arith))
+      ∙ same_label (entry_of bs (get_or rs i d)) (noted bs rs i) l same
+      ∙ ap (λ (x : Record). Some (entry_of bs x).name) (sym is))
   searched (Err i) within parted =
-      let at : (k : ℕ) (d : Record) → k < n → (get_or (take n rs) k d).entry.label ≡ (get_or rs k d).entry.label = λ k d h. ap (λ (x : Record). x.entry.label) (get_or-take n rs k d h) in
-      sym (passes_all rs l 0 n (omega arith) few (λ k d a b e. ⊎_elim
+      let at : (k : ℕ) (d : Record) → k < n → (get_or (take n rs) k d).label ≡ (get_or rs k d).label = λ k d h. ap (λ (x : Record). x.label) (get_or-take n rs k d h) in
+      sym (passes_all bs rs l 0 n (omega arith) few (λ k d a b e. ⊎_elim
       (λ c. omega (arith, at k d b, ranked _ l _ (sym ((parted comparisons_rise).0 k d (omega arith) c))))
       (λ c. omega (arith, at k d b, ranked _ l _ (sym ((parted comparisons_rise).1 k d c (omega (arith, length-take-le n rs few))))))
       (cases_lt k i)))

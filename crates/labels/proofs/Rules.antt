@@ -37,6 +37,12 @@ good_from n h =
 pub good_to : (n : List ℕ) → GoodName n → good_name n ≡ true
 good_to n h = and_from (ltb 0 (length n)) _ (lt-ltb 0 (length n) h.some) (and_from (leb (length n) 64) (list_all name_byte n) (le-leb (length n) 64 h.short) (bytes_to n h.bytes))
 
+-- a name that can follow is short
+pub short_name : (es : List Entry) (n : List ℕ) → bad_name es n ≡ false → length n ≤ 64
+short_name es n h =
+    let (z, w) = or_parts (not (good_name n)) (is_some (label_of es n)) h in
+    (good_from n (not-false (good_name n) z)).short
+
 -- a name that none of the entries has
 pub new_from : (es : List Entry) (n : List ℕ) → is_some (label_of es n) ≡ false → AllByRecursion (λ (d : Entry). d.name ≡ n → ⊥) es
 new_from [] n h = tt

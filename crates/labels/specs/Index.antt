@@ -1,6 +1,5 @@
--- The index of a book's records: the entry of each, and for each hash the records that have it, the last first.
-use Rattle.std.specs.Prelude.{◌≡◌, ℕ, ◌+◌, ◌*◌, ◌/◌, ◌%◌, ◌^◌, ◌<◌, cond, List, [], ◌∷◌, length, take, map, reverse, fold, ◌==◌, Some, None, Option, slice_index_or, slice_set}
-use Rattle.labels.specs.declared.entry.Entry.{Entry as Lent}
+-- The index of a book's records: the label of each and where its name lies in the book's bytes, and for each hash the records that have it, the last first.
+use Rattle.std.specs.Prelude.{◌≡◌, ℕ, ◌+◌, ◌*◌, ◌/◌, ◌%◌, ◌^◌, ◌<◌, ◌≤◌, cond, List, [], ◌∷◌, length, take, drop, map, reverse, fold, ◌==◌, Some, None, Option, slice_index_or, slice_set}
 use Rattle.labels.specs.declared.index.Record.{Record}
 use Rattle.labels.specs.declared.index.Tables.{Tables}
 use Rattle.labels.specs.Entries.{Entry}
@@ -13,33 +12,37 @@ hash_step h b = ((h + b) % 2 ^ 32 * 2654435761) % 2 ^ 32
 abbrev pub bucket_of : List ℕ → ℕ
 bucket_of n = fold hash_step 0 n / 1048576
 
--- The entry of a record.
-abbrev pub entry_of : Record → Entry
-entry_of r = record { label = r.entry.label; name = r.entry.name.now }
+-- The entry of a record, whose name is a part of the bytes.
+abbrev pub entry_of : List ℕ → Record → Entry
+entry_of bs r = record { label = r.label; name = take r.size (drop r.start bs) }
 
 -- The entries of the first n records, the last first.
-abbrev pub noted : List Record → ℕ → List Entry
-noted rs n = map entry_of (reverse (take n rs))
+abbrev pub noted : List ℕ → List Record → ℕ → List Entry
+noted bs rs n = map (entry_of bs) (reverse (take n rs))
 
 -- The number of the last entry in a bucket.
 abbrev pub newest : ℕ → List Entry → Option ℕ
 newest b [] = None
 newest b (e ∷ es) = cond (bucket_of e.name == b) (Some (length es)) (newest b es)
 
--- The entries that the tables hold.
-abbrev pub known : Tables → List Entry
-known t = noted t.records t.count
+-- The entries that the tables hold, where their names lie in these bytes.
+abbrev pub known : List ℕ → Tables → List Entry
+known bs t = noted bs t.records t.count
+
+-- The name of each record is a part of the bytes.
+abbrev pub Whole : List ℕ → Tables → Type 0
+Whole bs t = (k : ℕ) (d : Record) → k < t.count → (slice_index_or t.records k d).start + (slice_index_or t.records k d).size ≤ length bs
 
 -- For each bucket, the last record in it.
-abbrev pub Heads : Tables → Type 0
-Heads t = (b : ℕ) → b < 4096 → slice_index_or t.last b None ≡ newest b (known t)
+abbrev pub Heads : List ℕ → Tables → Type 0
+Heads bs t = (b : ℕ) → b < 4096 → slice_index_or t.last b None ≡ newest b (known bs t)
 
 -- For each record, the one before it in the same bucket.
-abbrev pub Links : Tables → Type 0
-Links t = (k : ℕ) (d : Record) → k < t.count → (slice_index_or t.records k d).before ≡ newest (bucket_of (slice_index_or t.records k d).entry.name.now) (noted t.records k)
+abbrev pub Links : List ℕ → Tables → Type 0
+Links bs t = (k : ℕ) (d : Record) → k < t.count → (slice_index_or t.records k d).before ≡ newest (bucket_of (entry_of bs (slice_index_or t.records k d)).name) (noted bs t.records k)
 
--- The tables t hold an entry more than s did, as the last record, in its bucket too.
-pub record Noted (s t : Tables) (e : Lent) : Type 0 where
-  pub records : t.records ≡ slice_set s.records s.count (record { entry = e; before = slice_index_or s.last (bucket_of e.name.now) None })
-  pub last : t.last ≡ slice_set s.last (bucket_of e.name.now) (Some s.count)
+-- The tables t hold a record more than s did, of a label and of a name that starts at the byte i, as the last one, in its bucket too.
+pub record Noted (s t : Tables) (i l : ℕ) (n : List ℕ) : Type 0 where
+  pub records : t.records ≡ slice_set s.records s.count (record { start = i; label = l; size = length n; before = slice_index_or s.last (bucket_of n) None })
+  pub last : t.last ≡ slice_set s.last (bucket_of n) (Some s.count)
   pub count : t.count ≡ s.count + 1

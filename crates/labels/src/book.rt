@@ -12,7 +12,7 @@ use refusals::Refusal;
 #[derive(Clone, Copy)]
 pub struct Book<'a> {
     index: Index<'a>,
-    ghost listed: { pairs (known index.tables) ≡ pairs (entries index.bytes.now) },
+    ghost listed: { pairs (known index.bytes.now index.tables) ≡ pairs (entries index.bytes.now) },
 }
 
 impl<'a> Book<'a> {
@@ -23,16 +23,8 @@ impl<'a> Book<'a> {
         ensures law { Judged bytes.now result.1 }
     {
         let mut index = Index::new(bytes);
-        match index.read() {
-            Ok(()) => {
-                let count = index.count();
-                (Book { index }, Ok(count))
-            }
-            Err(refusal) => {
-                let index = Index::new(bytes);
-                (Book { index }, Err(refusal))
-            }
-        }
+        let checked = index.read();
+        (Book { index }, checked)
     }
 
     /// The label that has a name.

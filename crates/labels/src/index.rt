@@ -3,10 +3,11 @@ ghost use Rattle.std.specs.Prelude.{◌≡◌, ◌+◌, ◌<◌, ◌≤◌, ◌�
 ghost use Rattle.std.specs.Option.{option_map};
 ghost use Rattle.std.proofs.Props.{props};
 ghost use Rattle.records.specs.Heads.{length_of};
-ghost use Rattle.labels.specs.Entries.{Rising, above_last, label_of, name_of, bad_label, bad_name, first_entry, fault, read_book};
-ghost use Rattle.labels.specs.Index.{known, Heads, Links, Noted};
+ghost use Rattle.labels.specs.Entries.{Rising, above_last, label_of, name_of, bad_label, bad_name, first_entry, fault, counted, entries, read_book};
+ghost use Rattle.labels.specs.Laws.{Judged};
+ghost use Rattle.labels.specs.Index.{entry_of, known, Whole, Heads, Links, Noted};
 
-use crate::entry::{Entry, read_entry};
+use crate::entry::read_entry;
 use crate::names::{Key, is_good_name};
 use refusals::{Cause, Layer, Refusal};
 
@@ -14,18 +15,20 @@ const LARGEST: u16 = 32767;
 
 const MOST: usize = 4096;
 
-/// A record that was read: its entry, and the number of the record before it in its bucket.
+/// A record that was read: its label, where its name starts in the book, how many bytes the name has, and the number of the record before it in its bucket.
 #[derive(Clone, Copy)]
-pub(crate) struct Record<'a> {
-    pub(crate) entry: Entry<'a>,
+pub(crate) struct Record {
+    pub(crate) start: usize,
+    pub(crate) label: u16,
+    pub(crate) size: u8,
     pub(crate) before: Option<u16>,
 }
 
 /// The records that were read, and for each bucket the number of its last one.
-// Kept as arrays of fixed size with a count: the index of a book takes no heap.
+// Kept as arrays of fixed size with a count: the index of a book takes no heap. A record holds where its name lies, and not the lent name, so that it takes 16 bytes of the stack and not 32.
 #[derive(Clone, Copy)]
-pub(crate) struct Tables<'a> {
-    records: [Record<'a>; MOST],
+pub(crate) struct Tables {
+    records: [Record; MOST],
     last: [Option<u16>; MOST],
     count: usize,
 }
@@ -34,25 +37,25 @@ pub(crate) struct Tables<'a> {
 #[derive(Clone, Copy)]
 pub(crate) struct Index<'a> {
     bytes: &'a [u8],
-    tables: Tables<'a>,
+    tables: Tables,
     ghost full: { length tables.records ≡ 4096 },
     ghost few: { tables.count ≤ 4096 },
-    ghost heads: { Heads tables } by { Prim.hlevel props },
-    ghost links: { Links tables } by { Prim.hlevel props },
+    ghost whole: { Whole bytes.now tables } by { Prim.hlevel props },
+    ghost heads: { Heads bytes.now tables } by { Prim.hlevel props },
+    ghost links: { Links bytes.now tables } by { Prim.hlevel props },
 }
 
-impl<'a> Tables<'a> {
-    /// Notes an entry as the last record, in its bucket too.
-    fn note(&mut self, label: u16, key: Key<'a>)
-        requires { self.old.count < 4096 }
-        ensures { Noted self.old self.new (record { label = label; name = key.entry.name }) }
+impl Tables {
+    /// Notes a label, and its name that starts at a byte, as the last record, in its bucket too.
+    fn note(&mut self, start: usize, label: u16, key: Key)
+        requires room { self.old.count < 4096 }
+        requires short { length key.name.now ≤ 64 }
+        ensures { Noted self.old self.new start label key.entry.name.now }
     {
-        let entry = Entry {
-            label,
-            name: key.name,
-        };
         self.records[self.count] = Record {
-            entry,
+            start,
+            label,
+            size: key.name.len() as u8,
             before: self.last[key.bucket],
         };
         self.last[key.bucket] = Some(self.count as u16);
@@ -67,10 +70,9 @@ impl<'a> Index<'a> {
         ensures bytes { result.bytes.now ≡ bytes.now }
     {
         let none = Record {
-            entry: Entry {
-                label: 0,
-                name: &[],
-            },
+            start: 0,
+            label: 0,
+            size: 0,
             before: None,
         };
         Index {
@@ -85,27 +87,35 @@ impl<'a> Index<'a> {
 
     /// How many records were read.
     pub(crate) fn count(&self) -> usize
-        ensures { result ≡ length (known self.now.tables) }
+        ensures { result ≡ length (known self.now.bytes.now self.now.tables) }
     {
         self.tables.count
     }
 
+    /// The name of a record, which is that part of the book.
+    fn name_in(&self, found: Record) -> &'a [u8]
+        requires { found.start + found.size ≤ length self.now.bytes.now }
+        ensures { result.now ≡ (entry_of self.now.bytes.now found).name }
+    {
+        &self.bytes[found.start..found.start + usize::from(found.size)]
+    }
+
     /// The label that has this name.
     pub(crate) fn label(&self, name: &[u8]) -> Option<u16>
-        ensures { result ≡ label_of (known self.now.tables) name.now }
+        ensures { result ≡ label_of (known self.now.bytes.now self.now.tables) name.now }
     {
         self.find(Key::of(name))
     }
 
     /// The label that has the name of this key.
     fn find(&self, key: Key) -> Option<u16>
-        ensures { result ≡ label_of (known self.now.tables) key.entry.name.now }
+        ensures { result ≡ label_of (known self.now.bytes.now self.now.tables) key.entry.name.now }
     {
         let mut next = self.tables.last[key.bucket];
         while let Some(number) = next {
             let record = self.tables.records[usize::from(number)];
-            if record.entry.name == key.name {
-                return Some(record.entry.label);
+            if self.name_in(record) == key.name {
+                return Some(record.label);
             }
             next = record.before;
         }
@@ -114,34 +124,34 @@ impl<'a> Index<'a> {
 
     /// The name of a label, where the labels rise.
     pub(crate) fn name(&self, label: u16) -> Option<&'a [u8]>
-        requires { Rising (known self.now.tables) }
-        ensures { option_map (λ x. x.now) result ≡ name_of (known self.now.tables) label }
+        requires { Rising (known self.now.bytes.now self.now.tables) }
+        ensures { option_map (λ x. x.now) result ≡ name_of (known self.now.bytes.now self.now.tables) label }
     {
         let records = &self.tables.records[..self.tables.count];
         let number = records
-            .binary_search_by_key(&label, |record| record.entry.label)
+            .binary_search_by_key(&label, |record| record.label)
             .ok()?;
-        Some(records[number].entry.name)
+        Some(self.name_in(records[number]))
     }
 
     /// Whether a label is above the last one.
     fn is_above(&self, label: u16) -> bool
-        ensures { result ≡ above_last (known self.now.tables) label }
+        ensures { result ≡ above_last (known self.now.bytes.now self.now.tables) label }
     {
         let records = &self.tables.records[..self.tables.count];
-        records.last().is_none_or(|last| last.entry.label < label)
+        records.last().is_none_or(|last| last.label < label)
     }
 
     /// Whether a label cannot follow those that are known.
     fn is_bad_label(&self, label: u16) -> bool
-        ensures { result ≡ bad_label (known self.now.tables) label }
+        ensures { result ≡ bad_label (known self.now.bytes.now self.now.tables) label }
     {
         label > LARGEST || !self.is_above(label)
     }
 
     /// Whether a name cannot follow those that are known.
     fn is_bad_name(&self, key: Key) -> bool
-        ensures { result ≡ bad_name (known self.now.tables) key.entry.name.now }
+        ensures { result ≡ bad_name (known self.now.bytes.now self.now.tables) key.entry.name.now }
     {
         !is_good_name(key.name) || self.find(key).is_some()
     }
@@ -150,7 +160,7 @@ impl<'a> Index<'a> {
     fn read_record(&mut self, at: usize) -> Result<usize, Cause>
         requires within { at ≤ length self.old.bytes.now }
         ensures same { self.new.bytes.now ≡ self.old.bytes.now }
-        ensures read { MatchResult result (λ next. (fault (known self.old.tables) (drop at self.old.bytes.now) ≡ None) × (known self.new.tables ≡ first_entry (drop at self.old.bytes.now) ∷ known self.old.tables) × (next ≡ at + length_of (drop at self.old.bytes.now))) (λ c. fault (known self.old.tables) (drop at self.old.bytes.now) ≡ Some c) }
+        ensures read { MatchResult result (λ next. (fault (known self.old.bytes.now self.old.tables) (drop at self.old.bytes.now) ≡ None) × (known self.new.bytes.now self.new.tables ≡ first_entry (drop at self.old.bytes.now) ∷ known self.old.bytes.now self.old.tables) × (next ≡ at + length_of (drop at self.old.bytes.now))) (λ c. fault (known self.old.bytes.now self.old.tables) (drop at self.old.bytes.now) ≡ Some c) }
     {
         let entry = read_entry(&self.bytes[at..]).ok_or(Cause::BadLength)?;
         if self.is_bad_label(entry.label) {
@@ -163,16 +173,15 @@ impl<'a> Index<'a> {
         if self.tables.count >= MOST {
             return Err(Cause::TooMany);
         }
-        self.tables.note(entry.label, key);
+        self.tables.note(at + 6, entry.label, key);
         Ok(at + 6 + entry.name.len())
     }
 
     /// Reads all records of the book, behind none, up to its first fault.
-    // Kept as a method on an index that the caller has made: handing the index out in a `Result` takes its tables on the stack once more for each hand.
-    pub(crate) fn read(&mut self) -> Result<(), Refusal>
+    fn read_all(&mut self) -> Result<(), Refusal>
         requires { self.old.tables.count ≡ 0 }
         ensures same { self.new.bytes.now ≡ self.old.bytes.now }
-        ensures read { MatchResult result (λ _. read_book self.old.bytes.now ≡ Ok (known self.new.tables)) (λ f. read_book self.old.bytes.now ≡ Err f) }
+        ensures read { MatchResult result (λ _. read_book self.old.bytes.now ≡ Ok (known self.new.bytes.now self.new.tables)) (λ f. read_book self.old.bytes.now ≡ Err f) }
     {
         let mut at = 0;
         // Kept as `while`: each record says where the next one starts, so there is nothing to go over.
@@ -182,5 +191,32 @@ impl<'a> Index<'a> {
                 .map_err(|cause| Refusal::at(cause, Layer::Book, at))?;
         }
         Ok(())
+    }
+
+    /// Forgets all records.
+    fn clear(&mut self)
+        ensures none { self.new.tables.count ≡ 0 }
+        ensures same { self.new.bytes.now ≡ self.old.bytes.now }
+    {
+        self.tables.last = [None; MOST];
+        self.tables.count = 0;
+    }
+
+    /// Reads the book, behind no record, and answers the number of its records or its first fault; where it has one, no record is known.
+    // Kept as a method on an index that the caller has made: handing the index out takes its tables on the stack once more for each hand.
+    pub(crate) fn read(&mut self) -> Result<usize, Refusal>
+        requires { self.old.tables.count ≡ 0 }
+        ensures same { self.new.bytes.now ≡ self.old.bytes.now }
+        ensures read { known self.new.bytes.now self.new.tables ≡ entries self.old.bytes.now }
+        ensures check { result ≡ counted (read_book self.old.bytes.now) }
+        ensures law { Judged self.old.bytes.now result }
+    {
+        match self.read_all() {
+            Ok(()) => Ok(self.count()),
+            Err(refusal) => {
+                self.clear();
+                Err(refusal)
+            }
+        }
     }
 }

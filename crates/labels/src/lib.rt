@@ -6,6 +6,7 @@ ghost use Rattle.labels.specs.Entries.{counted, named, read_book};
 ghost use Rattle.labels.specs.Laws.{Judged, Named};
 
 use book::Book;
+use index::Index;
 use refusals::{Cause, Layer, Refusal};
 
 pub mod book;
@@ -18,8 +19,7 @@ pub fn check(bytes: &[u8]) -> Result<usize, Refusal>
     ensures value { result ≡ counted (read_book bytes.now) }
     ensures law { Judged bytes.now result }
 {
-    let (_, checked) = Book::open(bytes);
-    checked
+    Index::new(bytes).read()
 }
 
 /// The name of a label, which is that part of the book; a faulty book is refused first.

@@ -2,12 +2,12 @@
 use Rattle.std.proofs.Common.{◌≡◌, ◌-◌, length}
 use Rattle.labels.specs.Index.{known}
 use Rattle.labels.proofs.Reading.{Underway}
-use Rattle.labels.proofs.index.Index.read.Given as goal
+use Rattle.labels.proofs.index.Index.read_all.Given as goal
 
 abbrev pub invariant-loop-at : goal.invariant-loop-at
 invariant-loop-at l = record {
   bytes : l.self.bytes.now ≡ l.fn.self.bytes.now;
-  underway : Underway l.fn.self.bytes.now (known l.self.tables) l.at;
+  underway : Underway l.fn.self.bytes.now (known l.self.bytes.now l.self.tables) l.at;
 }
 
 abbrev pub decreases-loop-at : goal.decreases-loop-at
