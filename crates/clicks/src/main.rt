@@ -48,6 +48,7 @@ fn borrowed<T: ChangeableTree, U: ChangeableTree>(
 }
 
 // Prints what came of a call.
+// Not by the refusal's own `Display`: what this program prints names no cause.
 fn tell(rt: &impl Print, what: &str, answer: Result<(), Refusal>) -> io::Result<()> {
     match answer {
         Ok(()) => println!(rt; "{what}: ok"),

@@ -23,6 +23,7 @@ impl<'t, T: Tree> Matcher<'t, T> {
         ensures places { self.new.found.places ≡ self.old.found.places }
         ensures tree { self.new.tree ≡ self.old.tree }
     {
+        // Kept as a loop over numbers: a tree is known by its questions alone, so there are no two slices to `zip`.
         for i in 0..size {
             self.found.steps += 1;
             if self.node_at(first + i) != self.node_at(second + i) {

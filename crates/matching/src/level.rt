@@ -32,6 +32,7 @@ impl<'t, T: Tree> Matcher<'t, T> {
         let mut rest = elements;
         let mut at = place;
         let mut ahead = first;
+        // Kept as `while`: each rule says how far it goes on, so there is nothing to go over.
         while at < end {
             // Kept as a `match`, as the `if` of `look_behind`.
             let node = match ahead {

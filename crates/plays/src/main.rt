@@ -51,6 +51,7 @@ fn twice() -> Option<Pattern> {
 }
 
 // Prints what is noted of a call.
+// Not by the refusal's own `Display`: what this program prints names no cause.
 fn tell(rt: &impl Print, note: &Note) -> io::Result<()> {
     match note {
         None => println!(rt; "no receipt"),

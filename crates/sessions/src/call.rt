@@ -35,7 +35,7 @@ pub enum Call {
 }
 
 /// What a call answers if it is not refused.
-#[derive(Clone, Copy)]
+#[derive(Clone, Copy, PartialEq, Eq, Debug)]
 pub enum Answer {
     Done,
     Opened(u32),

@@ -15,6 +15,7 @@ use trees::ChangeableTree;
 
 /// Makes a session over a tree, and makes calls of it one after the other, with the receipts of its own clicks and a foreign
 /// one; notes each answer, as far as there is room for notes.
+// Kept as parameters, here and below: of a struct that lends `out` and `notes`, clauses name what they hold afterwards by nested pairs.
 pub fn play<T: ChangeableTree>(
     heap: Global,
     tree: T,

@@ -34,6 +34,7 @@ impl<'a> Command<'a> {
     }
 }
 
+// Kept as parameters, here and below: these functions are one `match` on the word, cut in three.
 fn book_command<'a>(heap: Global, word: &[u8], rest: &'a [u8]) -> Result<Command<'a>, Failure> {
     match word {
         b"book" => Ok(Command::Book(read_hex(heap, rest)?)),

@@ -18,6 +18,7 @@ const IMAGE: [u8; 60] =
     *b"\x3c\x00\x00\x00\x01\x00\x0c\x00\x00\x00\x02\x00\x06\x00\x00\x00\x04\x00\x06\x00\x00\x00\x05\x00\x24\x00\x00\x00\x03\x00\x0c\x00\x00\x00\x02\x00\x06\x00\x00\x00\x06\x00\x06\x00\x00\x00\x07\x00\x0c\x00\x00\x00\x02\x00\x06\x00\x00\x00\x08\x00";
 
 /// Prints a refusal.
+// Not by its own `Display`: what this program prints names no cause, and parts all by commas.
 fn refuse(rt: &impl Print, refusal: Refusal) -> io::Result<()> {
     let (number, layer, byte, steps) = refusal.numbers();
     print!(rt; "refused {number}, layer {layer}, byte {byte}, steps {steps}")

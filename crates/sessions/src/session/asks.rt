@@ -45,7 +45,7 @@ impl<T: ChangeableTree> Session<T> {
         self.marks.count(self.shelf.count())
     }
 
-    // Kept as a loop that counts how far it wrote: only marked patterns take a slot, so a chain would be no plainer.
+    // Kept as a loop that counts how far it wrote: only marked patterns take a slot, so a chain would carry the same count along.
     // Writes the marks at a place into a slice from some element on, and says how far.
     fn write_at(&self, place: usize, out: &mut [(usize, usize)], from: usize) -> usize
         requires inside { place < length (view T.Meant.meaning self.now).look.marks }
