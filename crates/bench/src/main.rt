@@ -1,6 +1,7 @@
 // Runs the library on its largest inputs, as often as its first argument says, and prints what it found.
 #![tactic(auto)]
 
+use records::Head;
 use std::alloc::{AllocError, Global};
 use std::env;
 use std::time::Instant;
@@ -9,29 +10,36 @@ use std::time::Instant;
 fn large_book(heap: Global) -> Result<Vec<u8>, AllocError> {
     let mut book = Vec::new(heap);
     for number in 0..4096u16 {
-        let [low, high] = number.to_le_bytes();
-        book.extend_from_slice(&[70, 0, 0, 0, low, high])?;
+        let head = Head {
+            length: 70,
+            kind: number,
+        };
+        book.extend_from_slice(&head.bytes())?;
         book.extend_from_slice(&[b'n'; 60])?;
         book.extend_from_slice(format!(in heap; "{number:04o}")?.as_bytes())?;
     }
     Ok(book)
 }
 
-fn main(rt: HostRuntime) -> anyhow::Result<()> {
-    let repeats = match env::args(&rt)?.nth(1) {
-        Some(word) => word.as_str().parse::<u32>()?,
-        None => 0,
-    };
-    let book = large_book(rt.alloc())?;
-    let records = labels::check(book.as_slice()).unwrap_or(0);
-    println!(rt; "a book of {} bytes has {records} records", book.len())?;
-    if repeats > 0 {
-        let start = Instant::now(&rt)?;
-        for _ in 0..repeats {
-            let _ = labels::check(book.as_slice());
-        }
-        let time = start.elapsed(&rt)?.as_nanos() / u128::from(repeats);
+// Prints how long one check of a book takes, by so many of them.
+fn time_check(rt: &HostRuntime, book: &[u8], repeats: u32) -> anyhow::Result<()> {
+    let start = Instant::now(rt)?;
+    for _ in 0..repeats {
+        let _ = labels::check(book);
+    }
+    let time = start.elapsed(rt)?.as_nanos();
+    if let Some(time) = time.checked_div(u128::from(repeats)) {
         println!(rt; "one check takes {time} ns")?;
+    }
+    Ok(())
+}
+
+fn main(rt: HostRuntime) -> anyhow::Result<()> {
+    let book = large_book(rt.alloc())?;
+    let records = labels::check(book.as_slice())?;
+    println!(rt; "a book of {} bytes has {records} records", book.len())?;
+    if let Some(word) = env::args(&rt)?.nth(1) {
+        time_check(&rt, book.as_slice(), word.as_str().parse()?)?;
     }
     Ok(())
 }

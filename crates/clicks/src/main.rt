@@ -59,6 +59,14 @@ fn tell(rt: &impl Print, what: &str, answer: Result<(), Refusal>) -> io::Result<
     }
 }
 
+// Prints the label at the place that is clicked on.
+fn tell_label<T: Tree>(rt: &impl Print, tree: &T) -> io::Result<()> {
+    match tree.label(9) {
+        Ok(label) => println!(rt; "the label at place 9: {label}"),
+        Err(refusal) => println!(rt; "{refusal}"),
+    }
+}
+
 // Clicks on two sessions, over trees of any two makes.
 fn hour<T: ChangeableTree + Drop, U: ChangeableTree + Drop>(
     rt: &(impl Print + Alloc<A = Global>),
@@ -79,12 +87,10 @@ fn hour<T: ChangeableTree + Drop, U: ChangeableTree + Drop>(
         "a commit with another's receipt",
         borrowed(&mut session, &mut other),
     )?;
-    let label = session.tree().label(9).unwrap_or(0);
-    println!(rt; "the label at place 9: {label}")?;
+    tell_label(rt, session.tree())?;
     tell(rt, "an undo", session.undo())?;
     tell(rt, "one more", session.undo())?;
-    let label = session.tree().label(9).unwrap_or(0);
-    println!(rt; "the label at place 9: {label}")
+    tell_label(rt, session.tree())
 }
 
 fn main(rt: HostRuntime) -> anyhow::Result<()> {

@@ -17,6 +17,7 @@ pub struct Book<'a> {
 
 impl<'a> Book<'a> {
     /// The book over some bytes, and the number of its records or its first fault.
+    // Kept as a pair: a book over faulty bytes is asked too, and knows no name.
     pub fn open(bytes: &'a [u8]) -> (Book<'a>, Result<usize, Refusal>)
         ensures book { result.0.index.bytes.now ≡ bytes.now }
         ensures check { result.1 ≡ counted (read_book bytes.now) }

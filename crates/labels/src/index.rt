@@ -52,6 +52,7 @@ impl Tables {
         requires short { length key.name.now ≤ 64 }
         ensures { Noted self.old self.new start label key.entry.name.now }
     {
+        // Kept as casts, here and below: they are proved to lose nothing.
         self.records[self.count] = Record {
             start,
             label,
@@ -211,6 +212,7 @@ impl<'a> Index<'a> {
         ensures check { result ≡ counted (read_book self.old.bytes.now) }
         ensures law { Judged self.old.bytes.now result }
     {
+        // A match, since a fault clears the index before it is told.
         match self.read_all() {
             Ok(()) => Ok(self.count()),
             Err(refusal) => {

@@ -12,7 +12,7 @@ use refusals::{Cause, Layer, Refusal};
 pub mod book;
 mod entry;
 mod index;
-mod names;
+pub mod names;
 
 /// Checks a book: answers the number of its records, or refuses it by its first fault.
 pub fn check(bytes: &[u8]) -> Result<usize, Refusal>

@@ -4,7 +4,8 @@ ghost use Rattle.std.specs.List.{list_all};
 ghost use Rattle.labels.specs.Entries.{name_byte, good_name};
 ghost use Rattle.labels.specs.Index.{bucket_of};
 
-const LONGEST: usize = 64;
+/// The greatest number of bytes of a name.
+pub const LONGEST_NAME: usize = 64;
 
 /// Bytes that are looked for as a name, and their bucket.
 #[derive(Clone, Copy)]
@@ -15,7 +16,8 @@ pub(crate) struct Key<'a> {
     ghost small: { bucket < 4096 },
 }
 
-fn is_name_byte(byte: u8) -> bool
+/// Whether a byte may stand in a name.
+pub fn is_name_byte(byte: u8) -> bool
     ensures { result ≡ name_byte byte }
 {
     byte.is_ascii_graphic() && byte != b'\''
@@ -31,7 +33,7 @@ fn are_name_bytes(bytes: &[u8]) -> bool
 pub(crate) fn is_good_name(name: &[u8]) -> bool
     ensures { result ≡ good_name name.now }
 {
-    (1..=LONGEST).contains(&name.len()) && are_name_bytes(name)
+    (1..=LONGEST_NAME).contains(&name.len()) && are_name_bytes(name)
 }
 
 /// The bucket of a name.
@@ -42,6 +44,7 @@ fn bucket(name: &[u8]) -> usize
     let hash = name.iter().fold(0u32, |hash, byte| {
         hash.wrapping_add(u32::from(*byte)).wrapping_mul(2654435761)
     });
+    // Kept as a cast: it is proved to lose nothing.
     (hash / 1048576) as usize
 }
 

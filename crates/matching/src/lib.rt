@@ -39,6 +39,7 @@ pub fn match_at<T: Tree>(tree: &T, pattern: &Pattern, place: usize) -> Result<Ma
         },
     };
     let first = Some(Node { label, size });
+    // A match, since the refusal tells the steps that the matcher has counted.
     match matcher.match_level(pattern.elements(), first, place, place + size) {
         Ok(()) => Ok(matcher.found),
         Err(Mismatch) => Err(no_match(matcher.found.steps)),

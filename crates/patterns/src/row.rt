@@ -43,6 +43,7 @@ impl Element {
 }
 
 /// Elements in preorder: the first `count` of the slots. The other slots mean nothing.
+// Kept as an array with a count: plain rows are one of the forms of code that docs/DECISIONS.md lists.
 #[derive(Clone, Copy, PartialEq, Eq, Debug)]
 pub struct Row {
     pub elements: [Element; MAX_ELEMENTS],

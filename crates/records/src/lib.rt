@@ -1,8 +1,8 @@
 // The head of a record of a label book.
 #![tactic(auto)]
 
-ghost use Rattle.std.specs.Prelude.{◌≡◌};
-ghost use Rattle.records.specs.Heads.{head_of};
+ghost use Rattle.std.specs.Prelude.{◌≡◌, Some};
+ghost use Rattle.records.specs.Heads.{head_bytes, head_of};
 
 /// What a record begins with: its length, which counts the whole record, and its kind.
 #[derive(Clone, Copy, PartialEq, Eq, Debug)]
@@ -21,4 +21,16 @@ pub fn read_head(bytes: &[u8]) -> Option<Head>
         length: u32::from_le_bytes(*length),
         kind: u16::from_le_bytes(*kind),
     })
+}
+
+impl Head {
+    /// The six bytes of the head, which read back as it.
+    pub fn bytes(self) -> [u8; 6]
+        ensures value { result ≡ head_bytes self }
+        ensures back { head_of result ≡ Some self }
+    {
+        let [a, b, c, d] = self.length.to_le_bytes();
+        let [low, high] = self.kind.to_le_bytes();
+        [a, b, c, d, low, high]
+    }
 }

@@ -1,6 +1,7 @@
 // The entries of a journal: clicks, and what their changes replaced.
 
 /// A click: how many changes belong to it.
+// Kept as a count beside the table of changes: it is one of the forms of code that docs/DECISIONS.md lists, and all room is taken at once.
 #[derive(Clone, Copy, PartialEq, Eq, Debug)]
 pub struct Click {
     pub changes: usize,

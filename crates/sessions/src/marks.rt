@@ -4,11 +4,13 @@ mod tries;
 
 ghost use Rattle.std.specs.Prelude.{◌≡◌, ◌≤◌, length, vec_len};
 
+use crate::shelf::PATTERNS;
+
 /// What is kept of a place: whether it was touched since the last rebuild, and which patterns are marked there.
 #[derive(Clone, Copy)]
 pub(crate) struct Mark {
     touched: bool,
-    matched: [bool; 16],
+    matched: [bool; PATTERNS],
     ghost wide: { length matched ≡ 16 },
 }
 

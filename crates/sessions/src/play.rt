@@ -31,6 +31,7 @@ pub fn play<T: ChangeableTree>(
     ensures rest { (k : ℕ) → min (length calls.now) (length notes.old) ≤ k → slice_index_or notes.new k None ≡ slice_index_or notes.old k None }
     ensures law { EveryRun }
 {
+    // A match, since tree and receipt go back with the refusal.
     match Session::new(heap, tree, name) {
         Ok(session) => {
             let mut player = Player::new(session, foreign);
@@ -83,6 +84,7 @@ pub fn play_both<T: ChangeableTree, U: ChangeableTree>(
     ensures also { MatchResult result (λ p. Noted (making (U.Meant.meaning other_tree) other_name) (first_table other_foreign.session other_out.old) other_calls.now other_notes.old other_notes.new (table_of p.1.hands other_out.new)) (λ _. (other_out.new ≡ other_out.old) × (other_notes.new ≡ other_notes.old)) }
     ensures foreign { IfOk result (λ p. Left p.0.hands.foreign foreign.session × Left p.1.hands.foreign other_foreign.session) }
 {
+    // Matches, since trees and receipts go back with the refusal.
     let session = match Session::new(heap, tree, name) {
         Ok(session) => session,
         Err((tree, refused)) => {

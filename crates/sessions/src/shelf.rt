@@ -10,7 +10,7 @@ pub(crate) use rows::PATTERNS;
 /// Up to 16 rows, each of which is a pattern. The room for them is taken when the shelf is made.
 #[derive(Drop)]
 pub(crate) struct Shelf {
-    // Kept as plain rows: a rule of the project has rows kept, and a pattern made of a row after a check.
+    // Kept as plain rows: it is one of the forms of code that docs/DECISIONS.md lists, and a pattern is made of a row after a check.
     rows: Vec<Row>,
     ghost room: { 16 ≤ vec_capacity rows },
     ghost few: { vec_len rows ≤ 16 },

@@ -35,6 +35,7 @@ impl<'a, W: Write> Desk<'a, W> {
     }
 
     /// Writes a line and its answer, and says whether it was understood.
+    // Kept as a `bool`, as `run`.
     pub(crate) fn obey(&mut self, line: &[u8]) -> io::Result<bool> {
         self.out.write_all(b"> ")?;
         self.out.write_all(line)?;
@@ -59,7 +60,7 @@ impl<'a, W: Write> Desk<'a, W> {
             Command::Label(label, name) => self.add_label(label, name)?,
             Command::CheckBook => {
                 let records = labels::check(self.book.as_slice())?;
-                writeln!(self.out, "ok {records} records")?;
+                self.print_count(records, "records")?;
             }
             Command::Name(label) => self.print_name(label)?,
             Command::Image(bytes) => self.set_store(Store::Image(bytes))?,
@@ -68,11 +69,11 @@ impl<'a, W: Write> Desk<'a, W> {
             Command::TreeHex(text) => self.set_tree(text.as_slice())?,
             Command::CheckImage(bytes) => {
                 let places = check_image(bytes.as_slice())?;
-                writeln!(self.out, "ok {places} places")?;
+                self.print_count(places, "places")?;
             }
             Command::CheckOutline(records) => {
                 let places = check_outline(records.as_slice())?;
-                writeln!(self.out, "ok {places} places")?;
+                self.print_count(places, "places")?;
             }
             Command::Show => self.show()?,
             Command::Write => self.write()?,
@@ -86,5 +87,10 @@ impl<'a, W: Write> Desk<'a, W> {
             Command::Find(text) => self.find(text)?,
         }
         Ok(())
+    }
+
+    // Writes how many there are of something that was checked.
+    fn print_count(&mut self, count: usize, what: &str) -> io::Result<()> {
+        writeln!(self.out, "ok {count} {what}")
     }
 }

@@ -16,6 +16,7 @@ mod print;
 mod search;
 
 /// Obeys a script line by line, writes what it answers, and says whether every line was understood.
+// Kept as a `bool`: that a line was not understood is an answer, and ends nothing.
 pub fn run<W: Write>(heap: Global, script: &[u8], out: &mut W) -> io::Result<bool> {
     let mut desk = Desk::new(heap, out);
     let mut understood = true;

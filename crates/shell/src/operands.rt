@@ -10,10 +10,7 @@ use trees::outline::Record;
 pub(crate) fn split_word(text: &[u8]) -> (&[u8], Option<&[u8]>)
     ensures { IfSome result.1 (λ b. length b.now < length text.now) }
 {
-    match split_once(text, b' ') {
-        Some((word, rest)) => (word, Some(rest)),
-        None => (text, None),
-    }
+    split_once(text, b' ').map_or((text, None), |(word, rest)| (word, Some(rest)))
 }
 
 /// A number of 1 to 10 digits that fits 32 bits.

@@ -1,7 +1,6 @@
 // Kinds of bytes, where a run of them ends, and the character at a place.
 ghost use Rattle.std.specs.Prelude.{◌≡◌, ◌<◌, ◌≤◌, ◌↔◌, ℕ, Bool, length, slice_index, IsSome};
 ghost use Rattle.std.specs.Option.{unwrap_or};
-ghost use Rattle.labels.specs.Entries.{name_byte};
 ghost use Rattle.texts.specs.Bytes.{blank, namey, run_end, wordy};
 
 /// Whether a byte is a space, a tab or the end of a line.
@@ -23,13 +22,6 @@ pub(crate) fn is_word(byte: u8) -> bool
     ensures { result ≡ wordy byte }
 {
     is_name(byte) || byte == b'.'
-}
-
-/// Whether a byte may stand between two quotes.
-pub(crate) fn is_quotable(byte: u8) -> bool
-    ensures { result ≡ name_byte byte }
-{
-    matches!(byte, b'!'..=b'~') && byte != b'\''
 }
 
 /// Where the longest run from a byte on ends of the bytes that pass a test.

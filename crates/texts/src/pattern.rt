@@ -25,7 +25,7 @@ fn read_elements(book: &Book<'_>, text: &[u8]) -> Result<RowBuilder, Refusal>
     ensures { MatchResult result (λ x. scanned (entries_of book.now) (tokens text.now) ≡ Ok (elements_of x.row)) (λ f. scanned (entries_of book.now) (tokens text.now) ≡ Err f) }
 {
     let mut pattern = PatternReader::new(book, text);
-    // A match, since a refusal names the token that the reader read last.
+    // A match, since the refusal names the byte where the reader stands after the reading; `map_err` was tried, and its exit found no proof.
     match pattern.read() {
         Ok(()) => Ok(pattern.row),
         Err(cause) => Err(Refusal::at(cause, Layer::Pattern, pattern.reader.start())),

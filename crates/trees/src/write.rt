@@ -6,6 +6,7 @@ ghost use Rattle.trees.specs.Writing.{ReadsBack, write_answer, written};
 
 use crate::Tree;
 use crate::limits::RECORD_BYTES;
+use records::Head;
 use refusals::{Cause, Layer, Refusal};
 
 /// The record of a node.
@@ -13,9 +14,13 @@ fn record_of(label: u16, size: usize) -> [u8; RECORD_BYTES]
     requires { size ≤ 4096 }
     ensures { result ≡ node_bytes (record { label = label; size = size }) }
 {
-    let [a, b, c, d] = ((RECORD_BYTES * size) as u32).to_le_bytes();
-    let [low, high] = label.to_le_bytes();
-    [a, b, c, d, low, high]
+    // Kept as a cast: it is proved to lose nothing.
+    let length = (RECORD_BYTES * size) as u32;
+    Head {
+        length,
+        kind: label,
+    }
+    .bytes()
 }
 
 /// Writes a tree as an image into the beginning of some bytes, and answers how many it took.

@@ -4,6 +4,7 @@ ghost use Rattle.runs.specs.Session.{touching, no_marks};
 ghost use Rattle.sessions.specs.Looks.{marks_view};
 
 use crate::marks::{Mark, Marks};
+use crate::shelf::PATTERNS;
 use std::alloc::{AllocError, Global};
 
 impl Mark {
@@ -25,7 +26,7 @@ impl Marks {
     {
         let blank = Mark {
             touched: false,
-            matched: [false; 16],
+            matched: [false; PATTERNS],
         };
         let places = vec![in heap; blank; places]?;
         Ok(Marks {

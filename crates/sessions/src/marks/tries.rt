@@ -16,7 +16,7 @@ use patterns::Pattern;
 use refusals::Refusal;
 use trees::Tree;
 
-// The size at a place, and 0 outside the tree.
+// The size at a place, and 0 outside the tree, as the definition has it.
 fn size_of<T: Tree>(tree: &T, place: usize) -> usize
     ensures { result ≡ size_at (T.Meant.meaning tree.now) place }
 {

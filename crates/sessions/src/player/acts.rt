@@ -17,6 +17,7 @@ impl<T: ChangeableTree> Player<T> {
     fn open(&mut self) -> Note
         ensures { (o : List (ℕ × ℕ)) → record { state = view T.Meant.meaning self.new.session; table = table_of self.new.hands o; answer = note_answer o result } ≡ played_one (view T.Meant.meaning self.old.session) (table_of self.old.hands o) Call.Open }
     {
+        // A match, since the receipt is put into a hand of the player that the session lies in.
         match self.session.open() {
             Ok(receipt) => {
                 let name = receipt.session;
@@ -49,6 +50,7 @@ impl<T: ChangeableTree> Player<T> {
         ensures { MatchOption (in_the_hand hand self.old.hands) ((self.new ≡ self.old) × (result ≡ None)) (λ k. SpentBy (F.post call) hand k self.old.session self.old.hands self.new.session self.new.hands result) }
     {
         let receipt = self.hands.slot(hand).take()?;
+        // A match, since a receipt that comes back is put in its place.
         match call(&mut self.session, receipt) {
             Ok(()) => Some(Ok(Answer::Done)),
             Err((receipt, refused)) => {

@@ -20,7 +20,7 @@ impl<T: ChangeableTree> Session<T> {
     }
 
     // The first mark: the lowest place, and there the lowest pattern.
-    // Kept as a nested scan that its label leaves: a rule of the project has the first finding found so.
+    // Kept as a nested scan that its label leaves: it is one of the forms of code that docs/DECISIONS.md lists.
     fn first_mark(&self) -> Option<(usize, usize)>
         ensures { First (view T.Meant.meaning self.now) result }
     {
@@ -45,8 +45,8 @@ impl<T: ChangeableTree> Session<T> {
         self.marks.count(self.shelf.count())
     }
 
-    // Kept as a loop that counts how far it wrote: only marked patterns take a slot, so a chain would carry the same count along.
     // Writes the marks at a place into a slice from some element on, and says how far.
+    // Kept as a loop that counts: of what is written through a lent `iter_mut` nothing but the length is known behind the loop.
     fn write_at(&self, place: usize, out: &mut [(usize, usize)], from: usize) -> usize
         requires inside { place < length (view T.Meant.meaning self.now).look.marks }
         requires room { from + length (marked_at (view T.Meant.meaning self.now) place (length (view T.Meant.meaning self.now).patterns)) ≤ length out.old }
@@ -65,6 +65,7 @@ impl<T: ChangeableTree> Session<T> {
     }
 
     // Writes all marks to the start of a slice.
+    // Kept as a loop that counts, as `write_at`, which says how far it wrote.
     fn write_marks(&self, out: &mut [(usize, usize)])
         requires { length (all_found (view T.Meant.meaning self.now)) ≤ length out.old }
         ensures { out.new ≡ all_found (view T.Meant.meaning self.now) ++ drop (length (all_found (view T.Meant.meaning self.now))) out.old }

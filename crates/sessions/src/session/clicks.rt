@@ -44,6 +44,7 @@ impl<T: ChangeableTree> Session<T> {
     fn spend(&self, receipt: Receipt) -> Result<(), (Receipt, Refusal)>
         ensures { MatchResult result (λ _. wrong (view T.Meant.meaning self.now) receipt.session ≡ false) (λ e. (wrong (view T.Meant.meaning self.now) receipt.session ≡ true) × (e.0 ≡ receipt) × (e.1 ≡ refusal_of Cause.WrongClick SessionLayer 0 0)) }
     {
+        // Not by `?`: the receipt goes back with the refusal.
         if let Err(refused) = self.admits(&receipt) {
             return Err((receipt, refused));
         }

@@ -49,6 +49,7 @@ impl<T: ChangeableTree> Session<T> {
         ensures kept { MatchResult result (λ s. s.tree ≡ tree) (λ e. e.0 ≡ tree) }
     {
         let places = tree.places();
+        // A match, since the tree moves into the session or back to the caller.
         match parts(heap, places) {
             Ok((shelf, journal, marks)) => Ok(Session {
                 tree,

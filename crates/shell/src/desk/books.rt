@@ -1,6 +1,7 @@
 // What the commands of the label book do.
 use crate::desk::Desk;
 use crate::failure::Failure;
+use records::Head;
 use std::alloc::AllocError;
 use std::io;
 use std::io::Write;
@@ -18,10 +19,12 @@ impl<W: Write> Desk<'_, W> {
 
     // Appends a record, unchecked; its length counts the whole record.
     fn push_record(&mut self, label: u16, name: &[u8]) -> Result<(), AllocError> {
-        let length = name.len().saturating_add(6) as u64;
-        let [a, b, c, d, ..] = length.to_le_bytes();
-        let [low, high] = label.to_le_bytes();
-        self.book.extend_from_slice(&[a, b, c, d, low, high])?;
+        let length = (name.len().saturating_add(6) & 0xffff_ffff) as u32;
+        let head = Head {
+            length,
+            kind: label,
+        };
+        self.book.extend_from_slice(&head.bytes())?;
         self.book.extend_from_slice(name)
     }
 

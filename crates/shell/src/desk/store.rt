@@ -41,10 +41,7 @@ impl Store {
 
 /// The tree of a script, if there is one.
 pub(crate) fn tree_of(store: &mut Option<Store>) -> Result<AnyTree<'_>, Failure> {
-    match store {
-        Some(store) => Ok(store.tree()),
-        None => Err(Failure::NoTree),
-    }
+    Ok(store.as_mut().ok_or(Failure::NoTree)?.tree())
 }
 
 impl Meant for AnyTree<'_> {

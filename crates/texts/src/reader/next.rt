@@ -4,11 +4,10 @@ ghost use Rattle.std.specs.Option.{option_map};
 ghost use Rattle.texts.specs.Tokens.{shape, next_token, quoted_at, percent_at, constructed_at, variable_at, lexed};
 ghost use Rattle.texts.specs.Reading.{Reads};
 
-use crate::bytes::{char_at, is_blank, is_name, is_quotable, is_word, run_end};
+use crate::bytes::{char_at, is_blank, is_name, is_word, run_end};
 use crate::reader::Reader;
 use crate::token::Token;
-
-const LONGEST_NAME: usize = 64;
+use labels::names::{LONGEST_NAME, is_name_byte};
 
 const LONGEST_VARIABLE: usize = 16;
 
@@ -55,7 +54,7 @@ impl<'a> Reader<'a> {
     {
         let text = self.text;
         let first = from + 1;
-        let end = run_end(text, first, is_quotable);
+        let end = run_end(text, first, is_name_byte);
         match char_at(text, end) {
             Some('\'') if end > first && end - first <= LONGEST_NAME => {
                 self.read(Token::Quoted(&text[first..end]), end + 1)

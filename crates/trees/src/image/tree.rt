@@ -21,10 +21,7 @@ impl<'a> Image<'a> {
         ensures same { (m : Forest) → Law m → bytes.old ≡ image_of m → image_tree result ≡ m }
         ensures untouched { result.bytes.now ≡ bytes.old }
     {
-        let leaf = match check_image(bytes) {
-            Ok(_) => None,
-            Err(_) => Some(0),
-        };
+        let leaf = check_image(bytes).err().map(|_| 0);
         Image { bytes, leaf }
     }
 }
@@ -48,6 +45,7 @@ impl Meant for Image<'_> {
     ghost lawful = { λ t. image_kept t.leaf t.bytes.now t.checked t.low };
 }
 
+// Kept as methods of their own beside the outline's: what differs is how each make stores and reads, and a trait for that would repeat the questions.
 impl Tree for Image<'_> {
     fn places(&self) -> usize {
         match self.leaf {

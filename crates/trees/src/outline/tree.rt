@@ -39,10 +39,7 @@ impl<'a> Outline<'a> {
         ensures same { (m : Forest) → Law m → records.old ≡ outline_of m → outline_tree result ≡ m }
         ensures untouched { result.records.now ≡ records.old }
     {
-        let leaf = match check_outline(records) {
-            Ok(_) => None,
-            Err(_) => Some(0),
-        };
+        let leaf = check_outline(records).err().map(|_| 0);
         Outline { records, leaf }
     }
 }
@@ -53,6 +50,7 @@ impl Meant for Outline<'_> {
     ghost lawful = { λ t. outline_kept t.leaf t.records.now t.checked t.low };
 }
 
+// Kept as methods of their own beside the image's: what differs is how each make stores and reads, and a trait for that would repeat the questions.
 impl Tree for Outline<'_> {
     fn places(&self) -> usize {
         match self.leaf {

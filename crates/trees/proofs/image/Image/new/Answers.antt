@@ -6,4 +6,4 @@ use Rattle.trees.proofs.ImageOf.{image_meant}
 use Rattle.trees.proofs.image.Image.new.Goals as goal
 
 pub returns-clause-same : goal.returns-clause-same
-returns-clause-same c = λ m h e. let meaning : kept c.match-check_image.leaf (image_nodes c.args.bytes.now) ≡ image_meaning c.args.bytes.now = search rules in meaning ∙ image_meant c.args.bytes.now m h e
+returns-clause-same c = λ m h e. let meaning : kept c.map-leaf.result (image_nodes c.args.bytes.now) ≡ image_meaning c.args.bytes.now = search rules in meaning ∙ image_meant c.args.bytes.now m h e
