@@ -13,7 +13,7 @@ LINES = {
     "1 success told by a bool": r"Result<bool>|Ok\(false\)|\) -> bool \{?$.*found|if !(agrees|same|inner) \{",
     "1 Option in a Result for a failure": r"Result<Option<|Ok\(None\)",
     "1 numbers that stand for none or for kinds": r"(None|_|Err\(_\)|Group \{ \.\. \}) => 0,|else \{ 0 \}|\(0, 0, 0\)|, 0, 0\)|0 is none",
-    "1 an Option or Result taken apart and made again": r"None => (Err|None|Ok|true|Next|return (Ok|Err))|Some\(\w+\) => Ok|Err\(_\) =>|Err\(\w+\) => (Err|Note)|Ok\(\w+\) => (Ok|Note)|return Err\(refusal\(|let Some\(\w+\) = .* else",
+    "1 an Option or Result taken apart and made again": r"None => (Err|None|Ok|true|Next|return (Ok|Err))|Some\(\w+\) => Ok|Err\(_\) =>|Err\(\w+\) => (return )?(Err|Note)|Ok\(\w+\) => (Ok|Note)|return Err\(refusal\(|let Some\(\w+\) = .* else",
     "3 loops": r"^\s*('\w+: )?(while|loop|for) ",
     "3 loops over numbers or with a count of their own": r"^\s*('\w+: )?(while (?!let)|loop|for \w+ in \(?[\w.()]+\.\.)|^\s+\w+ \+= 1;",
     "4 by hand: bytes of numbers": r"% 256|256 \*|/ 256|& 0xffff",
@@ -35,16 +35,40 @@ def functions(text):
         yield name, text[m.start() : end if end > 0 else len(text)]
 
 
+def closing(text, at):
+    """Where the bracket that stands at a place is closed; the sign of an arrow closes nothing."""
+    pairs, depth = {"(": ")", "<": ">"}, 0
+    opened, closed = text[at], pairs[text[at]]
+    for i in range(at, len(text)):
+        if text[i] == opened:
+            depth += 1
+        elif text[i] == closed and text[i - 1 : i + 1] != "->":
+            depth -= 1
+            if depth == 0:
+                return i
+    return len(text)
+
+
+def parameters(function):
+    """The names of a function's parameters."""
+    at = re.search(r"fn \w+", function).end()
+    if function[at] == "<":
+        at = closing(function, at) + 1
+    inside = function[at + 1 : closing(function, at)]
+    while re.search(r"[(<\[][^()<>\[\]]*[)>\]]", inside):
+        inside = re.sub(r"[(<\[][^()<>\[\]]*[)>\]]", "", inside)
+    return re.findall(r"(\w+)\s*:", inside)
+
+
 def parts(function):
-    head = re.match(r"[^(]*\((.*?)\)", function, re.S)
-    names = re.findall(r"(\w+)\s*:", head.group(1)) if head else []
+    """A function's parameters, the facts that it requires, and its body on one line."""
     facts = []
     for clause in re.findall(r"^\s*requires (?:\w+ )?\{(.*)\}\s*$", function, re.M):
         plain = re.sub(r"\.(old|now|new)\b", ".x", clause)
         facts += [part.strip("() ") for part in plain.split(" × ")]
     brace = function.find("{\n")
     body = re.sub(r"\s+", " ", function[function.rfind("\n{\n") if "\n{\n" in function else brace :])
-    return names, facts, body
+    return parameters(function), facts, body
 
 
 def main():

@@ -34,6 +34,7 @@ pub(crate) struct Tables {
 }
 
 /// The lent bytes of a book, and the tables of the records that were read in them.
+// Kept as clauses of the methods: each that takes `&mut self` says that the bytes stay, which no fact of the type can.
 #[derive(Clone, Copy)]
 pub(crate) struct Index<'a> {
     bytes: &'a [u8],

@@ -8,6 +8,8 @@ use crate::nodes::Node;
 use trees::Tree;
 
 /// A match in a tree that is under way, and what it has found so far: each bound place is one of the tree's.
+// Kept as clauses of the methods: that a place lies in the tree is asked of each method's own argument, and a type that carries it would
+// be made anew at each node; that the tree stays is said by each that takes `&mut self`.
 #[derive(Drop)]
 pub(crate) struct Matcher<'t, T: Tree> {
     pub(crate) tree: &'t T,

@@ -8,6 +8,7 @@ ghost use Rattle.sessions.specs.Held.{all_labels};
 use crate::entry::{Click, Replaced};
 pub(crate) use notes::{CHANGES, CLICKS};
 
+// Kept as clauses of three methods: that a click stands holds only between `begin` and `forget`, so it is no fact of the type.
 /// The clicks that stand, the oldest first, and what their changes replaced; the last click may be open.
 /// The room for 64 clicks and 256 changes is taken when the journal is made.
 #[derive(Drop)]

@@ -14,6 +14,8 @@ pub(crate) struct Mark {
     ghost wide: { length matched ≡ 16 },
 }
 
+// Kept as clauses of three methods: a pattern's number below 16 is what the shelf's count gives them, so a type for it would be made
+// anew at each call.
 /// A mark for each place; how many patterns the last rebuild tried; and whether anything changed since. All room is taken when
 /// the marks are made.
 #[derive(Drop)]

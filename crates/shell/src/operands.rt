@@ -29,6 +29,7 @@ pub(crate) fn read_number(text: &[u8]) -> Result<u32, Failure> {
 /// The lower 16 bits of a number.
 pub(crate) fn read_half(text: &[u8]) -> Result<u16, Failure> {
     let number = read_number(text)?;
+    // The mask says that bits are meant to be lost; a cast alone that loses some is refused.
     Ok((number & 0xffff) as u16)
 }
 

@@ -12,6 +12,7 @@ impl<W: Write> Desk<'_, W> {
         Ok(())
     }
 
+    // Kept beside `find`: both begin alike, and a function for that would lend from the desk while the desk writes.
     pub(crate) fn match_place(&mut self, place: usize, text: &[u8]) -> Result<(), Failure> {
         let tree = tree_of(&mut self.store)?;
         let search = Search::read(self.heap, self.book.as_slice(), text)?;

@@ -35,6 +35,7 @@ impl<'a, 'b> PatternReader<'a, 'b> {
     }
 
     /// Ends a pattern.
+    // Kept beside `close`: they differ in the token and in where the elements begin, and each promises another end.
     pub(crate) fn finish(&mut self) -> Result<(), Cause>
         requires { at_stop self.old ≡ true }
         ensures { Ended self.old self.new result }
