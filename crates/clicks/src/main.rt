@@ -64,7 +64,7 @@ fn tell(rt: &impl Print, what: &str, answer: Result<(), Refusal>) -> io::Result<
 fn tell_label<T: Tree>(rt: &impl Print, tree: &T) -> io::Result<()> {
     match tree.label(9) {
         Ok(label) => println!(rt; "the label at place 9: {label}"),
-        Err(refusal) => println!(rt; "{refusal}"),
+        Err(refusal) => tell(rt, "the label at place 9", Err(refusal)),
     }
 }
 

@@ -17,6 +17,7 @@ use refusals::Refusal;
 use trees::Tree;
 
 // The size at a place, and 0 outside the tree, as the definition has it.
+// Kept so: that there are as many marks as places is a law of runs, and no fact of a type.
 fn size_of<T: Tree>(tree: &T, place: usize) -> usize
     ensures { result ≡ size_at (T.Meant.meaning tree.now) place }
 {

@@ -17,7 +17,7 @@ impl<T: ChangeableTree> Player<T> {
     fn open(&mut self) -> Note
         ensures { (o : List (ℕ × ℕ)) → record { state = view T.Meant.meaning self.new.session; table = table_of self.new.hands o; answer = note_answer o result } ≡ played_one (view T.Meant.meaning self.old.session) (table_of self.old.hands o) Call.Open }
     {
-        // A match, since the receipt is put into a hand of the player that the session lies in.
+        // Kept as a match: `map` with a closure that puts the receipt into the hand was tried; what it wrote there was not known behind it.
         match self.session.open() {
             Ok(receipt) => {
                 let name = receipt.session;

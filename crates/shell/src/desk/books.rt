@@ -19,6 +19,7 @@ impl<W: Write> Desk<'_, W> {
 
     // Appends a record, unchecked; its length counts the whole record.
     fn push_record(&mut self, label: u16, name: &[u8]) -> Result<(), AllocError> {
+        // The mask says that bits are meant to be lost, of a name that no record can count.
         let length = (name.len().saturating_add(6) & 0xffff_ffff) as u32;
         let head = Head {
             length,
