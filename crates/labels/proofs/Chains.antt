@@ -1,5 +1,5 @@
 -- What the chains of an index's records say of the names.
-use Rattle.std.proofs.Common.{◌≡◌, ℕ, zero, suc, ◌^◌, ◌+◌, ◌<◌, ◌≤◌, eqb, ◌≢◌, List, [], ◌∷◌, length, map, reverse, get_or, take, drop, set, fold, Some, None, Option, sym, refl, ap, ◌∙◌, subst, ⊎_elim, add-one, arith}
+use Rattle.std.proofs.Common.{◌≡◌, ℕ, zero, suc, ◌^◌, ◌<◌, ◌≤◌, eqb, ◌≢◌, false, List, [], ◌∷◌, length, map, reverse, get_or, take, drop, set, fold, Some, None, Option, sym, refl, ap, ◌∙◌, subst, ⊎_elim, add-one, arith}
 use Rattle.std.proofs.Math.Seq.{take-suc}
 use Rattle.std.proofs.lemmas.List.{get_or-set_same, get_or-set_other, reverse-append, take-set-le, length-map, length-reverse, length-take-le, length-set}
 use Rattle.std.proofs.lemmas.Bool.{cases_Bool, cond-true, cond-false, eqb-true, eqb-false, cases_eq}
@@ -7,8 +7,9 @@ use Rattle.std.proofs.lemmas.Slice.Eq.{bytes_eq-Decides}
 use Rattle.std.specs.Str.{bytes_eq}
 use Rattle.labels.specs.declared.index.Record.{Record}
 use Rattle.labels.specs.declared.index.Tables.{Tables}
-use Rattle.labels.specs.Entries.{Entry, label_of}
-use Rattle.labels.specs.Index.{hash_step, bucket_of, entry_of, noted, newest, known, Whole, Heads, Links, Noted}
+use Rattle.labels.specs.declared.link.Link.{Link}
+use Rattle.labels.specs.Entries.{Entry, label_of, first_entry, bad_length}
+use Rattle.labels.specs.Index.{hash_step, bucket_of, link_of, entry_of, noted, newest, known, Whole, Heads, Links, Noted}
 
 -- one record more
 pub noted_more : (bs : List ℕ) (rs : List Record) (n : ℕ) (d : Record) → n < length rs → noted bs rs (suc n) ≡ entry_of bs (get_or rs n d) ∷ noted bs rs n
@@ -16,6 +17,13 @@ noted_more bs rs n d h = ap (λ (xs : List Record). map (entry_of bs) (reverse x
 
 pub length_noted : (bs : List ℕ) (rs : List Record) (n : ℕ) → n ≤ length rs → length (noted bs rs n) ≡ n
 length_noted bs rs n h = length-map (reverse (take n rs)) (entry_of bs) ∙ length-reverse (take n rs) ∙ length-take-le n rs h
+
+-- links tell numbers
+pub links_tell : (o p : Option ℕ) → link_of o ≡ link_of p → o ≡ p
+links_tell None None h = refl
+links_tell None (Some k) h = absurd (omega (arith, ap (λ (l : Link). l.above) h))
+links_tell (Some k) None h = absurd (omega (arith, ap (λ (l : Link). l.above) h))
+links_tell (Some k) (Some m) h = let same : k ≡ m = omega (arith, ap (λ (l : Link). l.above) h) in ap Some same
 
 -- how many records stand up to one, with it; none up to none
 abbrev pub through : Option ℕ → ℕ
@@ -91,8 +99,8 @@ stands bs t n m o h u is same = record {
 }
 
 -- it begins there
-pub begins : (bs : List ℕ) (t : Tables) (n : List ℕ) (b : ℕ) → t.count ≤ length t.records → Heads bs t → b ≡ bucket_of n → b < 4096 → Looking bs t n (get_or t.last b None)
-begins bs t n b u heads is small = stands bs t n t.count (get_or t.last b None) (omega arith) u (heads b small ∙ ap (λ (x : ℕ). newest x (known bs t)) is) refl
+pub begins : (bs : List ℕ) (t : Tables) (n : List ℕ) (b : ℕ) (o : Option ℕ) → t.count ≤ length t.records → Heads bs t → b ≡ bucket_of n → b < 4096 → link_of o ≡ get_or t.last b (link_of None) → Looking bs t n o
+begins bs t n b o u heads is small head = stands bs t n t.count o (omega arith) u (links_tell o _ (head ∙ heads b small) ∙ ap (λ (x : ℕ). newest x (known bs t)) is) refl
 
 -- it ends at a record that has the name
 pub ends : (bs : List ℕ) (t : Tables) (n : List ℕ) (o : Option ℕ) (k : ℕ) (d : Record) → t.count ≤ length t.records → Looking bs t n o → o ≡ Some k → (entry_of bs (get_or t.records k d)).name ≡ n → Some (get_or t.records k d).label ≡ label_of (known bs t) n
@@ -101,12 +109,12 @@ ends bs t n o k d u at is name =
     sym (at.same ∙ ap (λ (x : Option ℕ). label_of (noted bs t.records (through x)) n) is ∙ ap (λ (es : List Entry). label_of es n) (noted_more bs t.records k d under) ∙ same_name (entry_of bs (get_or t.records k d)) (noted bs t.records k) n name)
 
 -- it goes on at an earlier one
-pub goes_on : (bs : List ℕ) (t : Tables) (n : List ℕ) (o : Option ℕ) (k : ℕ) (d : Record) → t.count ≤ length t.records → Links bs t → Looking bs t n o → o ≡ Some k → ((entry_of bs (get_or t.records k d)).name ≡ n → ⊥) → Looking bs t n (get_or t.records k d).before × (through (get_or t.records k d).before < through o)
-goes_on bs t n o k d u links at is other =
+pub goes_on : (bs : List ℕ) (t : Tables) (n : List ℕ) (o p : Option ℕ) (k : ℕ) (d : Record) → t.count ≤ length t.records → Links bs t → Looking bs t n o → o ≡ Some k → ((entry_of bs (get_or t.records k d)).name ≡ n → ⊥) → link_of p ≡ (get_or t.records k d).before → Looking bs t n p × (through p < through o)
+goes_on bs t n o p k d u links at is other before =
     let under : k < t.count = omega (arith, at.within, ap through is) in
-    let linked : (get_or t.records k d).before ≡ newest (bucket_of n) (noted bs t.records k) = links k d under ∙ ap (λ (b : ℕ). newest b (noted bs t.records k)) (at.here k d is) in
+    let linked : p ≡ newest (bucket_of n) (noted bs t.records k) = links_tell p _ (before ∙ links k d under) ∙ ap (λ (b : ℕ). newest b (noted bs t.records k)) (at.here k d is) in
     let same : label_of (known bs t) n ≡ label_of (noted bs t.records k) n = at.same ∙ ap (λ (x : Option ℕ). label_of (noted bs t.records (through x)) n) is ∙ ap (λ (es : List Entry). label_of es n) (noted_more bs t.records k d (omega arith)) ∙ other_name (entry_of bs (get_or t.records k d)) (noted bs t.records k) n other in
-    (stands bs t n k (get_or t.records k d).before (omega arith) (omega arith) linked same, omega (arith, ap through is, ap through linked, newest_below (bucket_of n) (noted bs t.records k), length_noted bs t.records k (omega arith)))
+    (stands bs t n k p (omega arith) (omega arith) linked same, omega (arith, ap through is, ap through linked, newest_below (bucket_of n) (noted bs t.records k), length_noted bs t.records k (omega arith)))
 
 noted_set : (bs : List ℕ) (rs : List Record) (n m : ℕ) (r : Record) → m ≤ n → noted bs (set rs n r) m ≡ noted bs rs m
 noted_set bs rs n m r h = ap (λ (xs : List Record). map (entry_of bs) (reverse xs)) (take-set-le m rs n r h)
@@ -121,13 +129,13 @@ bucket_small n = omega (arith, hash_small 0 n (omega arith))
 module _ (bs : List ℕ) (s t : Tables) (i l : ℕ) (name : List ℕ) (n : Noted s t i l name) (room : s.count < length s.records) where
   -- the record that was noted
   abbrev newer : Record
-  newer = record { start = i; label = l; size = length name; before = get_or s.last (bucket_of name) None }
+  newer = record { start = i; label = l; before = get_or s.last (bucket_of name) (link_of None) }
 
-  -- its entry, where the bytes hold its name
-  newer_entry : take (length name) (drop i bs) ≡ name → entry_of bs newer ≡ record { label = l; name = name }
+  -- its entry, where it has the name
+  newer_entry : (first_entry (drop i bs)).name ≡ name → entry_of bs newer ≡ record { label = l; name = name }
   newer_entry is = λ j. record { label = l; name = is j }
 
-  pub note_known : take (length name) (drop i bs) ≡ name → known bs t ≡ record { label = l; name = name } ∷ known bs s
+  pub note_known : (first_entry (drop i bs)).name ≡ name → known bs t ≡ record { label = l; name = name } ∷ known bs s
   note_known is =
       let long : s.count < length (set s.records s.count newer) = omega (arith, length-set {A = Record}) in
       (λ j. noted bs (n.records j) ((n.count ∙ add-one s.count) j))
@@ -143,31 +151,31 @@ module _ (bs : List ℕ) (s t : Tables) (i l : ℕ) (name : List ℕ) (n : Noted
       (λ q. subst (λ (r : Record). P r k) (sym (get_or-set_other s.records s.count k newer d q)) (old k d (omega (arith, n.count, q))))
       (cases_eq k s.count))
 
-  pub note_whole : i + length name ≤ length bs → Whole bs s → Whole bs t
-  note_whole h whole = old_or_new (λ r k. r.start + r.size ≤ length bs) whole h
+  pub note_whole : bad_length (drop i bs) ≡ false → Whole bs s → Whole bs t
+  note_whole h whole = old_or_new (λ r k. bad_length (drop r.start bs) ≡ false) whole h
 
   same_noted : (k : ℕ) → k ≤ s.count → noted bs t.records k ≡ noted bs s.records k
   same_noted k h = ap (λ (rs : List Record). noted bs rs k) n.records ∙ noted_set bs s.records s.count k newer h
 
-  pub note_heads : take (length name) (drop i bs) ≡ name → length s.last ≡ 4096 → Heads bs s → Heads bs t
+  pub note_heads : (first_entry (drop i bs)).name ≡ name → length s.last ≡ 4096 → Heads bs s → Heads bs t
   note_heads is long heads a h =
       let b = bucket_of name in
       let more = note_known is in
       ⊎_elim
       (λ q.
       let same : b ≡ a = eqb-true b a q in
-      ap (λ (xs : List (Option ℕ)). get_or xs a None) n.last ∙ ap (λ (m : ℕ). get_or (set s.last b (Some s.count)) m None) (sym same) ∙ get_or-set_same s.last b (Some s.count) None (omega (arith, bucket_small name, long))
-      ∙ sym (ap (newest a) more ∙ cond-true (eqb b a) (Some (length (known bs s))) (newest a (known bs s)) q ∙ ap Some (length_noted bs s.records s.count (omega arith))))
+      ap (λ (xs : List Link). get_or xs a (link_of None)) n.last ∙ ap (λ (m : ℕ). get_or (set s.last b (link_of (Some s.count))) m (link_of None)) (sym same) ∙ get_or-set_same s.last b (link_of (Some s.count)) (link_of None) (omega (arith, bucket_small name, long))
+      ∙ ap link_of (sym (ap (newest a) more ∙ cond-true (eqb b a) (Some (length (known bs s))) (newest a (known bs s)) q ∙ ap Some (length_noted bs s.records s.count (omega arith)))))
       (λ f.
       let other : a ≢ b = λ d. eqb-false b a f (sym d) in
-      ap (λ (xs : List (Option ℕ)). get_or xs a None) n.last ∙ get_or-set_other s.last b a (Some s.count) None other ∙ heads a h
-      ∙ sym (ap (newest a) more ∙ cond-false (eqb b a) (Some (length (known bs s))) (newest a (known bs s)) f))
+      ap (λ (xs : List Link). get_or xs a (link_of None)) n.last ∙ get_or-set_other s.last b a (link_of (Some s.count)) (link_of None) other ∙ heads a h
+      ∙ ap link_of (sym (ap (newest a) more ∙ cond-false (eqb b a) (Some (length (known bs s))) (newest a (known bs s)) f)))
       (cases_Bool (eqb b a))
 
-  pub note_links : take (length name) (drop i bs) ≡ name → Heads bs s → Links bs s → Links bs t
+  pub note_links : (first_entry (drop i bs)).name ≡ name → Heads bs s → Links bs s → Links bs t
   note_links is heads links k d h =
-      let P : Record → ℕ → Type 0 = λ r j. j ≤ s.count → r.before ≡ newest (bucket_of (entry_of bs r).name) (noted bs t.records j) in
+      let P : Record → ℕ → Type 0 = λ r j. j ≤ s.count → r.before ≡ link_of (newest (bucket_of (entry_of bs r).name) (noted bs t.records j)) in
       old_or_new P
-      (λ j d q w. links j d q ∙ sym (ap (newest (bucket_of (entry_of bs (get_or s.records j d)).name)) (same_noted j w)))
-      (λ w. heads (bucket_of name) (bucket_small name) ∙ sym (λ q. newest (bucket_of (is q)) (same_noted s.count w q)))
+      (λ j d q w. links j d q ∙ ap link_of (sym (ap (newest (bucket_of (entry_of bs (get_or s.records j d)).name)) (same_noted j w))))
+      (λ w. heads (bucket_of name) (bucket_small name) ∙ ap link_of (sym (λ q. newest (bucket_of (is q)) (same_noted s.count w q))))
       k d h (omega (arith, n.count))

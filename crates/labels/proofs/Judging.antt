@@ -1,7 +1,7 @@
 -- The bytes that are read are exactly the books, and the first fault is found.
 use Rattle.std.proofs.Common.{◌≡◌, ℕ, zero, suc, ◌+◌, ◌-◌, ◌*◌, ◌<◌, ◌≤◌, false, List, [], ◌∷◌, ◌++◌, length, get_or, take, drop, Some, None, Ok, Err, Option, Result, sym, refl, ap, ◌∙◌, subst, ⊎_elim, zero-add, arith, length-append, length-drop}
 use Rattle.std.proofs.lemmas.List.{append_assoc, append-nil, take-append-drop, get_or_append_left, get_or-take, drop-take, take_at, drop_at, drop-append-le, length-take-le, nil_from_length}
-use Rattle.std.proofs.lemmas.Bool.{cases_Bool, cases_lt}
+use Rattle.std.proofs.lemmas.Bool.{cases_lt}
 use Rattle.records.specs.Heads.{length_of, kind_of}
 use Rattle.refusals.specs.declared.Cause.{Cause}
 use Rattle.refusals.specs.declared.Layer.TheVariants.{Book}
@@ -9,8 +9,8 @@ use Rattle.refusals.specs.declared.Refusal.{Refusal}
 use Rattle.refusals.specs.Numbers.{refused}
 use Rattle.labels.specs.Entries.{Entry, Rising, first_entry, bad_length, bad_label, bad_name, fault, read_on, read_book, counted, entries}
 use Rattle.labels.specs.Laws.{IsRecord, MayFollow, IsBook, empty, more, FirstFault, Judged}
-use Rattle.labels.proofs.Faults.{fault_label, fault_name, fault_many, fault_none}
-use Rattle.labels.proofs.Reading.{by_fault, read_step, read_end, fine_parts}
+use Rattle.labels.proofs.Faults.{fault_many, fault_none}
+use Rattle.labels.proofs.Reading.{by_fault, read_step, read_end, fine_parts, fine_tests}
 use Rattle.labels.proofs.Rules.{book_rising, follows_from, label_fine, name_fine}
 use Rattle.labels.proofs.Wholes.{Parts, parts_good, name_length}
 
@@ -95,14 +95,10 @@ some_none o h k = cc
 -- an entry whose record has no fault may follow
 fine_follows : (es : List Entry) (bs : List ℕ) → Rising es → fault es bs ≡ None → MayFollow es (first_entry bs)
 fine_follows es bs r f =
-    let e = first_entry bs in
     let long : bad_length bs ≡ false = let p = fine_parts es bs f in parts_good bs p.least p.fits in
-    ⊎_elim (λ t. absurd (some_none (fault es bs) (fault_label es bs long t) f)) (λ l.
-    ⊎_elim (λ t. absurd (some_none (fault es bs) (fault_name es bs long l t) f)) (λ n.
-    ⊎_elim (λ room. follows_from es e r room l n) (λ t. absurd (some_none (fault es bs) (fault_many es bs long l n t) f))
-    (cases_lt (length es) 4096))
-    (cases_Bool (bad_name es e.name)))
-    (cases_Bool (bad_label es e.label))
+    let (l, n) = fine_tests es bs f in
+    ⊎_elim (λ room. follows_from es (first_entry bs) r room l n) (λ t. absurd (some_none (fault es bs) (fault_many es bs long l n t) f))
+    (cases_lt (length es) 4096)
 
 -- what reading comes to: a book, or a first fault if there is no book
 abbrev pub Outcome : List ℕ → Result (List Entry) Refusal → Type 0

@@ -1,16 +1,17 @@
 -- One record after the other, as `read-on` has it.
-use Rattle.std.proofs.Common.{◌≡◌, ℕ, zero, suc, ◌+◌, ◌-◌, ◌<◌, ◌≤◌, subst, length-drop, List, [], ◌∷◌, length, drop, Some, None, Ok, Err, Option, Result, sym, refl, ap, ◌∙◌, ⊎_elim, arith}
+use Rattle.std.proofs.Common.{◌≡◌, ℕ, zero, suc, ◌+◌, ◌-◌, ◌*◌, ◌<◌, ◌≤◌, false, subst, length-drop, List, [], ◌∷◌, length, drop, Some, None, Ok, Err, Option, Result, sym, refl, ap, ◌∙◌, ⊎_elim, arith}
 use Rattle.std.proofs.lemmas.Bool.{cases_Bool}
 use Rattle.std.proofs.lemmas.List.{drop-drop, drop_all}
 use Rattle.records.specs.Heads.{length_of}
 use Rattle.refusals.specs.declared.Cause.{Cause}
-use Rattle.refusals.specs.declared.Cause.TheVariants.{BadLength}
+use Rattle.refusals.specs.declared.Cause.TheVariants.{BadLength, BadLabel, BadName}
 use Rattle.refusals.specs.declared.Layer.TheVariants.{Book}
 use Rattle.refusals.specs.declared.Refusal.{Refusal}
 use Rattle.refusals.specs.Numbers.{refused}
-use Rattle.labels.specs.Entries.{Entry, first_entry, bad_length, fault, read_on, read_book, pairs}
-use Rattle.labels.proofs.Faults.{fault_length}
-use Rattle.labels.proofs.Wholes.{Parts, good_parts}
+use Rattle.labels.specs.Entries.{Entry, first_entry, bad_length, bad_label, bad_name, fault, read_on, read_book, pairs}
+use Rattle.labels.proofs.Faults.{fault_length, fault_label, fault_name}
+use Rattle.labels.proofs.Rules.{short_name}
+use Rattle.labels.proofs.Wholes.{Parts, good_parts, parts_good, name_length}
 
 -- what `read-on` does by the fault of the first record
 abbrev pub by_fault : ℕ → List Entry → ℕ → List ℕ → Option Cause → Result (List Entry) Refusal
@@ -35,16 +36,31 @@ fine_parts es bs f = ⊎_elim
     (λ g. good_parts bs g)
     (cases_Bool (bad_length bs))
 
--- a book is read up to the byte i, with these entries
+-- and its label and its name can follow
+pub fine_tests : (es : List Entry) (bs : List ℕ) → fault es bs ≡ None → (bad_label es (first_entry bs).label ≡ false) × (bad_name es (first_entry bs).name ≡ false)
+fine_tests es bs f =
+    let p = fine_parts es bs f in
+    let long = parts_good bs p.least p.fits in
+    ⊎_elim (λ t. let wrong : Some BadLabel ≡ None = sym (fault_label es bs long t) ∙ f in cc) (λ l.
+    ⊎_elim (λ t. let wrong : Some BadName ≡ None = sym (fault_name es bs long l t) ∙ f in cc) (λ n. (l, n))
+    (cases_Bool (bad_name es (first_entry bs).name)))
+    (cases_Bool (bad_label es (first_entry bs).label))
+
+-- so it is short
+fine_short : (es : List Entry) (bs : List ℕ) → fault es bs ≡ None → length_of bs ≤ 70
+fine_short es bs f = omega (arith, name_length bs (fine_parts es bs f), short_name es (first_entry bs).name (fine_tests es bs f).1)
+
+-- a book is read up to the byte i, with these entries, of which each takes at most 70 bytes
 pub record Underway (bs : List ℕ) (es : List Entry) (i : ℕ) : Type 0 where
   pub within : i ≤ length bs
   pub few : length es ≤ i
+  pub near : i ≤ 70 * length es
   pub left : read_book bs ≡ read_on (length bs - length es) es i (drop i bs)
 
 pub sets_out : (bs : List ℕ) (es : List Entry) → es ≡ [] → Underway bs es 0
 sets_out bs es e =
     let all : length bs ≡ length bs - 0 = omega arith in
-    subst (λ (xs : List Entry). Underway bs xs 0) (sym e) (record { within = omega arith; few = omega arith; left = ap (λ (k : ℕ). read_on k [] 0 bs) all })
+    subst (λ (xs : List Entry). Underway bs xs 0) (sym e) (record { within = omega arith; few = omega arith; near = omega arith; left = ap (λ (k : ℕ). read_on k [] 0 bs) all })
 
 pub goes_on : (bs : List ℕ) (es fs : List Entry) (i j : ℕ) → Underway bs es i → i < length bs → fault es (drop i bs) ≡ None → fs ≡ first_entry (drop i bs) ∷ es → j ≡ i + length_of (drop i bs) → Underway bs fs j × (i < j)
 goes_on bs es fs i j u h f m n =
@@ -55,6 +71,7 @@ goes_on bs es fs i j u h f m n =
       record {
         within = omega (arith, n, parts.fits, length-drop i bs, h);
         few = omega (arith, n, parts.least, more, u.few);
+        near = omega (arith, n, fine_short es rest f, more, u.near);
         left = u.left
             ∙ ap (λ (k : ℕ). read_on k es i rest) fuel
             ∙ read_step (length bs - length fs) es i rest (omega (arith, length-drop i bs, h)) f

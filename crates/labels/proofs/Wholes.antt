@@ -1,7 +1,6 @@
 -- Whole records.
-use Rattle.std.proofs.Common.{◌≡◌, ℕ, ◌+◌, ◌-◌, ◌≤◌, false, ltb, List, length, take, drop, sym, ap, ◌∙◌, arith, length-drop, length-take}
+use Rattle.std.proofs.Common.{◌≡◌, ℕ, ◌+◌, ◌-◌, ◌≤◌, false, ltb, List, length, drop, arith, length-drop, length-take}
 use Rattle.std.proofs.lemmas.Bool.{le-ltb, or_from, or_parts, ltb-false}
-use Rattle.std.proofs.lemmas.List.{drop-drop}
 use Rattle.records.specs.Heads.{length_of}
 use Rattle.labels.specs.Entries.{first_entry, bad_length}
 
@@ -24,15 +23,3 @@ parts_good bs h k =
 -- a whole record is six bytes and its name
 pub name_length : (bs : List ℕ) → Parts bs → 6 + length (first_entry bs).name ≡ length_of bs
 name_length bs h = omega (arith, length-take (length_of bs - 6) (drop 6 bs), length-drop 6 bs, h.least, h.fits)
-
--- the name of a whole record is a part of the bytes in which the record lies
-pub name_lies : (bs : List ℕ) (i : ℕ) (n : List ℕ) → bad_length (drop i bs) ≡ false → n ≡ (first_entry (drop i bs)).name → take (length n) (drop (i + 6) bs) ≡ n
-name_lies bs i n h is =
-    let p = good_parts (drop i bs) h in
-    let size : length n ≡ length_of (drop i bs) - 6 = omega (arith, ap length is, name_length (drop i bs) p) in
-    (λ j. take (size j) (sym (drop-drop 6 i bs) j)) ∙ sym is
-
-pub name_fits : (bs : List ℕ) (i : ℕ) (n : List ℕ) → bad_length (drop i bs) ≡ false → n ≡ (first_entry (drop i bs)).name → i + 6 + length n ≤ length bs
-name_fits bs i n h is =
-    let p = good_parts (drop i bs) h in
-    omega (arith, ap length is, name_length (drop i bs) p, p.least, p.fits, length-drop i bs)

@@ -1,13 +1,14 @@
 // The index of a book's records, which finds a name without comparing it with all others.
-ghost use Rattle.std.specs.Prelude.{◌≡◌, ◌+◌, ◌<◌, ◌≤◌, ◌∷◌, drop, Some, Ok, Err, MatchResult, length, None};
+ghost use Rattle.std.specs.Prelude.{◌≡◌, ◌+◌, ◌*◌, ◌^◌, ◌<◌, ◌≤◌, ◌∷◌, true, false, drop, Some, Ok, Err, MatchOption, MatchResult, length, None};
 ghost use Rattle.std.specs.Option.{option_map};
 ghost use Rattle.std.proofs.Props.{props};
 ghost use Rattle.records.specs.Heads.{length_of};
-ghost use Rattle.labels.specs.Entries.{Rising, above_last, label_of, name_of, bad_label, bad_name, first_entry, fault, counted, entries, read_book};
+ghost use Rattle.labels.specs.Entries.{Rising, above_last, label_of, name_of, bad_length, bad_label, bad_name, first_entry, fault, counted, entries, read_book};
 ghost use Rattle.labels.specs.Laws.{Judged};
 ghost use Rattle.labels.specs.Index.{entry_of, known, Whole, Heads, Links, Noted};
 
 use crate::entry::read_entry;
+use crate::link::Link;
 use crate::names::{Key, is_good_name};
 use refusals::{Cause, Layer, Refusal};
 
@@ -15,21 +16,20 @@ const LARGEST: u16 = 32767;
 
 const MOST: usize = 4096;
 
-/// A record that was read: its label, where its name starts in the book, how many bytes the name has, and the number of the record before it in its bucket.
+/// A record that was read: where it starts in the book, its label, and the record before it in its bucket.
 #[derive(Clone, Copy)]
 pub(crate) struct Record {
-    pub(crate) start: usize,
+    pub(crate) start: u32,
     pub(crate) label: u16,
-    pub(crate) size: u8,
-    pub(crate) before: Option<u16>,
+    pub(crate) before: Link,
 }
 
-/// The records that were read, and for each bucket the number of its last one.
-// Kept as arrays of fixed size with a count: the index of a book takes no heap. A record holds where its name lies, and not the lent name, so that it takes 16 bytes of the stack and not 32.
+/// The records that were read, and for each bucket its last one.
+// Kept as arrays of fixed size with a count: the index of a book takes no heap. A record holds where it starts, and not the lent name, so that it takes 8 bytes of the stack and not 24.
 #[derive(Clone, Copy)]
 pub(crate) struct Tables {
     records: [Record; MOST],
-    last: [Option<u16>; MOST],
+    last: [Link; MOST],
     count: usize,
 }
 
@@ -47,20 +47,19 @@ pub(crate) struct Index<'a> {
 }
 
 impl Tables {
-    /// Notes a label, and its name that starts at a byte, as the last record, in its bucket too.
+    /// Notes the record that starts at a byte, with its label and the key of its name, as the last, in its bucket too.
     fn note(&mut self, start: usize, label: u16, key: Key)
         requires room { self.old.count < 4096 }
-        requires short { length key.name.now ≤ 64 }
+        requires near { start < 2 ^ 32 }
         ensures { Noted self.old self.new start label key.entry.name.now }
     {
-        // Kept as casts, here and below: they are proved to lose nothing.
+        // Kept as casts, here and below: they are proved to lose nothing, since at most 4,095 records, of at most 70 bytes each, stand before the last.
         self.records[self.count] = Record {
-            start,
+            start: start as u32,
             label,
-            size: key.name.len() as u8,
             before: self.last[key.bucket],
         };
-        self.last[key.bucket] = Some(self.count as u16);
+        self.last[key.bucket] = Link::to(self.count as u16);
         self.count += 1;
     }
 }
@@ -74,14 +73,13 @@ impl<'a> Index<'a> {
         let none = Record {
             start: 0,
             label: 0,
-            size: 0,
-            before: None,
+            before: Link::NONE,
         };
         Index {
             bytes,
             tables: Tables {
                 records: [none; MOST],
-                last: [None; MOST],
+                last: [Link::NONE; MOST],
                 count: 0,
             },
         }
@@ -96,10 +94,12 @@ impl<'a> Index<'a> {
 
     /// The name of a record, which is that part of the book.
     fn name_in(&self, found: Record) -> &'a [u8]
-        requires { found.start + found.size ≤ length self.now.bytes.now }
+        requires { bad_length (drop found.start self.now.bytes.now) ≡ false }
         ensures { result.now ≡ (entry_of self.now.bytes.now found).name }
     {
-        &self.bytes[found.start..found.start + usize::from(found.size)]
+        read_entry(&self.bytes[found.start as usize..])
+            .unwrap()
+            .name
     }
 
     /// The label that has this name.
@@ -113,13 +113,13 @@ impl<'a> Index<'a> {
     fn find(&self, key: Key) -> Option<u16>
         ensures { result ≡ label_of (known self.now.bytes.now self.now.tables) key.entry.name.now }
     {
-        let mut next = self.tables.last[key.bucket];
+        let mut next = self.tables.last[key.bucket].number();
         while let Some(number) = next {
             let record = self.tables.records[usize::from(number)];
             if self.name_in(record) == key.name {
                 return Some(record.label);
             }
-            next = record.before;
+            next = record.before.number();
         }
         None
     }
@@ -151,16 +151,24 @@ impl<'a> Index<'a> {
         label > LARGEST || !self.is_above(label)
     }
 
-    /// Whether a name cannot follow those that are known.
-    fn is_bad_name(&self, key: Key) -> bool
-        ensures { result ≡ bad_name (known self.now.bytes.now self.now.tables) key.entry.name.now }
+    /// The key of a name, unless the name cannot follow those that are known. What is no name has no key, so its bytes are not hashed.
+    fn free_key<'n>(&self, name: &'n [u8]) -> Option<Key<'n>>
+        ensures { MatchOption result (bad_name (known self.now.bytes.now self.now.tables) name.now ≡ true) (λ key. (bad_name (known self.now.bytes.now self.now.tables) name.now ≡ false) × (key.name.now ≡ name.now)) }
     {
-        !is_good_name(key.name) || self.find(key).is_some()
+        if !is_good_name(name) {
+            return None;
+        }
+        let key = Key::of(name);
+        if self.find(key).is_some() {
+            return None;
+        }
+        Some(key)
     }
 
     /// Reads the record at a byte, behind those that are known, and answers where the next starts.
     fn read_record(&mut self, at: usize) -> Result<usize, Cause>
         requires within { at ≤ length self.old.bytes.now }
+        requires near { at ≤ 70 * length (known self.old.bytes.now self.old.tables) }
         ensures same { self.new.bytes.now ≡ self.old.bytes.now }
         ensures read { MatchResult result (λ next. (fault (known self.old.bytes.now self.old.tables) (drop at self.old.bytes.now) ≡ None) × (known self.new.bytes.now self.new.tables ≡ first_entry (drop at self.old.bytes.now) ∷ known self.old.bytes.now self.old.tables) × (next ≡ at + length_of (drop at self.old.bytes.now))) (λ c. fault (known self.old.bytes.now self.old.tables) (drop at self.old.bytes.now) ≡ Some c) }
     {
@@ -168,14 +176,11 @@ impl<'a> Index<'a> {
         if self.is_bad_label(entry.label) {
             return Err(Cause::BadLabel);
         }
-        let key = Key::of(entry.name);
-        if self.is_bad_name(key) {
-            return Err(Cause::BadName);
-        }
+        let key = self.free_key(entry.name).ok_or(Cause::BadName)?;
         if self.tables.count >= MOST {
             return Err(Cause::TooMany);
         }
-        self.tables.note(at + 6, entry.label, key);
+        self.tables.note(at, entry.label, key);
         Ok(at + 6 + entry.name.len())
     }
 
@@ -200,7 +205,7 @@ impl<'a> Index<'a> {
         ensures none { self.new.tables.count ≡ 0 }
         ensures same { self.new.bytes.now ≡ self.old.bytes.now }
     {
-        self.tables.last = [None; MOST];
+        self.tables.last = [Link::NONE; MOST];
         self.tables.count = 0;
     }
 

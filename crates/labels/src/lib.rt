@@ -12,6 +12,7 @@ use refusals::{Cause, Layer, Refusal};
 pub mod book;
 mod entry;
 mod index;
+mod link;
 pub mod names;
 
 /// Checks a book: answers the number of its records, or refuses it by its first fault.

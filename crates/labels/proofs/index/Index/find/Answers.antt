@@ -10,7 +10,7 @@ pub loop-next-init : goal.loop-next-init
 loop-next-init c =
     let t = c.args.self.now.tables in
     let room : t.count ≤ length t.records = omega (arith, c.args.self.now.full, c.args.self.now.few) in
-    begins c.args.self.now.bytes.now t c.args.key.name.now c.args.key.bucket room c.args.self.now.heads c.args.key.hashed c.args.key.small
+    begins c.args.self.now.bytes.now t c.args.key.name.now c.args.key.bucket c.number-next.result room c.args.self.now.heads c.args.key.hashed c.args.key.small c.number-next.ensures
 
 pub name_in-requires : goal.name_in-requires
 name_in-requires c = c.args.self.now.whole c.from.result _ (omega (arith, c.loop-next.invariant.within, ap through (c.in-Some.is ∙ ap Some (sym c.from.ensures))))
@@ -25,10 +25,10 @@ pub loop-next-smaller : goal.loop-next-smaller
 loop-next-smaller c =
     let t = c.args.self.now.tables in
     let room : t.count ≤ length t.records = omega (arith, c.args.self.now.full, c.args.self.now.few) in
-    (goes_on c.args.self.now.bytes.now t c.args.key.name.now c.loop-next.next c.from.result _ room c.args.self.now.links c.loop-next.invariant (c.in-Some.is ∙ ap Some (sym c.from.ensures)) (λ e. true≢false (sym ((slice_eq-Decides Decides-eqb _ _ _ c.eq.ensures).1 (c.name_in.ensures ∙ e)) ∙ c.if-eq.false))).1
+    (goes_on c.args.self.now.bytes.now t c.args.key.name.now c.loop-next.next c.number-next-in-Some.result c.from.result _ room c.args.self.now.links c.loop-next.invariant (c.in-Some.is ∙ ap Some (sym c.from.ensures)) (λ e. true≢false (sym ((slice_eq-Decides Decides-eqb _ _ _ c.eq.ensures).1 (c.name_in.ensures ∙ e)) ∙ c.if-eq.false)) c.number-next-in-Some.ensures).1
 
 pub loop-next-preserved : goal.loop-next-preserved
 loop-next-preserved c =
     let t = c.args.self.now.tables in
     let room : t.count ≤ length t.records = omega (arith, c.args.self.now.full, c.args.self.now.few) in
-    (goes_on c.args.self.now.bytes.now t c.args.key.name.now c.loop-next.next c.from.result _ room c.args.self.now.links c.loop-next.invariant (c.in-Some.is ∙ ap Some (sym c.from.ensures)) (λ e. true≢false (sym ((slice_eq-Decides Decides-eqb _ _ _ c.eq.ensures).1 (c.name_in.ensures ∙ e)) ∙ c.if-eq.false))).0
+    (goes_on c.args.self.now.bytes.now t c.args.key.name.now c.loop-next.next c.number-next-in-Some.result c.from.result _ room c.args.self.now.links c.loop-next.invariant (c.in-Some.is ∙ ap Some (sym c.from.ensures)) (λ e. true≢false (sym ((slice_eq-Decides Decides-eqb _ _ _ c.eq.ensures).1 (c.name_in.ensures ∙ e)) ∙ c.if-eq.false)) c.number-next-in-Some.ensures).0

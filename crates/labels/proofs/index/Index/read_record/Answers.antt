@@ -7,8 +7,7 @@ use Rattle.labels.specs.Entries.{Entry, bad_length, bad_label, bad_name, first_e
 use Rattle.labels.specs.Index.{known}
 use Rattle.labels.proofs.Chains.{length_noted, note_known, note_whole, note_heads, note_links}
 use Rattle.labels.proofs.Faults.{fault_many, fault_none}
-use Rattle.labels.proofs.Wholes.{good_parts, name_length, name_lies, name_fits}
-use Rattle.labels.proofs.Rules.{short_name}
+use Rattle.labels.proofs.Wholes.{good_parts, name_length}
 use Rattle.labels.proofs.index.Index.read_record.Goals as goal
 
 -- an entry that was read, and the tests that it passed
@@ -31,11 +30,15 @@ returns-then-self-ge-MOST-clause-read c =
     let t = x.tables in
     let rest = drop c.args.at x.bytes.now in
     let was = c.ok_or.ensures.ok_part ∙ ap result_ok c.in_ok-entry.was in
-    let p = passed (known x.bytes.now t) _ rest c.in_ok-entry.entry (take_rest x.bytes.now c.args.at) (rw was at c.read_entry.ensures) c.if-is_bad_label.ensures (c.if-is_bad_name.ensures ∙ ap (bad_name _) c.of-key.ensures) in
+    let free = rw (c.ok_or-2.ensures.ok_part ∙ ap result_ok c.in_ok-key.was) at c.free_key.ensures in
+    let p = passed (known x.bytes.now t) _ rest c.in_ok-entry.entry (take_rest x.bytes.now c.args.at) (rw was at c.read_entry.ensures) c.if-is_bad_label.ensures (sym free.0) in
     fault_many (known x.bytes.now t) rest p.long p.label p.name (omega (arith, length_noted x.bytes.now t.records t.count (omega (arith, x.full, x.few))))
 
-pub note-requires-clause-short : goal.note-requires-clause-short
-note-requires-clause-short c = short_name _ c.of-key.result.name.now (sym (c.if-is_bad_name.ensures))
+pub note-requires-clause-near : goal.note-requires-clause-near
+note-requires-clause-near c =
+    let x = c.args.self.now in
+    let t = x.tables in
+    omega (arith, c.requires.near, length_noted x.bytes.now t.records t.count (omega (arith, x.full, x.few)))
 
 pub invariant_of-self : goal.invariant_of-self
 invariant_of-self c =
@@ -43,18 +46,19 @@ invariant_of-self c =
     let s = x.tables in
     let t = c.note.new.self in
     let bs = x.bytes.now in
-    let name = c.of-key.result.name.now in
+    let name = c.in_ok-key.key.name.now in
     let room : s.count < length s.records = omega (arith, x.full) in
     let long : length s.last ≡ 4096 = search rules in
     let was = c.ok_or.ensures.ok_part ∙ ap result_ok c.in_ok-entry.was in
-    let p = passed (known bs s) _ (drop c.args.at bs) c.in_ok-entry.entry (take_rest bs c.args.at) (rw was at c.read_entry.ensures) c.if-is_bad_label.ensures (c.if-is_bad_name.ensures ∙ ap (bad_name _) c.of-key.ensures) in
-    let lies = name_lies bs c.args.at name p.long (c.of-key.ensures ∙ p.named) in
+    let free = rw (c.ok_or-2.ensures.ok_part ∙ ap result_ok c.in_ok-key.was) at c.free_key.ensures in
+    let p = passed (known bs s) _ (drop c.args.at bs) c.in_ok-entry.entry (take_rest bs c.args.at) (rw was at c.read_entry.ensures) c.if-is_bad_label.ensures (sym free.0) in
+    let named = sym (free.1 ∙ p.named) in
     record {
       full = ap length c.note.ensures.records ∙ length-set s.records s.count _ ∙ x.full;
       few = omega (arith, c.note.ensures.count);
-      whole = note_whole bs s t _ _ name c.note.ensures room (name_fits bs c.args.at name p.long (c.of-key.ensures ∙ p.named)) x.whole;
-      heads = note_heads bs s t _ _ name c.note.ensures room lies long x.heads;
-      links = note_links bs s t _ _ name c.note.ensures room lies x.heads x.links;
+      whole = note_whole bs s t _ _ name c.note.ensures room p.long x.whole;
+      heads = note_heads bs s t _ _ name c.note.ensures room named long x.heads;
+      links = note_links bs s t _ _ name c.note.ensures room named x.heads x.links;
     }
 
 pub returns-clause-read : goal.returns-clause-read
@@ -63,12 +67,13 @@ returns-clause-read c =
     let s = x.tables in
     let t = c.note.new.self in
     let bs = x.bytes.now in
-    let name = c.of-key.result.name.now in
+    let name = c.in_ok-key.key.name.now in
     let rest = drop c.args.at bs in
     let room : s.count < length s.records = omega (arith, x.full) in
     let was = c.ok_or.ensures.ok_part ∙ ap result_ok c.in_ok-entry.was in
-    let p = passed (known bs s) _ rest c.in_ok-entry.entry (take_rest bs c.args.at) (rw was at c.read_entry.ensures) c.if-is_bad_label.ensures (c.if-is_bad_name.ensures ∙ ap (bad_name _) c.of-key.ensures) in (
+    let free = rw (c.ok_or-2.ensures.ok_part ∙ ap result_ok c.in_ok-key.was) at c.free_key.ensures in
+    let p = passed (known bs s) _ rest c.in_ok-entry.entry (take_rest bs c.args.at) (rw was at c.read_entry.ensures) c.if-is_bad_label.ensures (sym free.0) in (
       fault_none (known bs s) rest p.long p.label p.name (omega (arith, length_noted bs s.records s.count (omega arith))),
-      note_known bs s t _ _ name c.note.ensures room (name_lies bs c.args.at name p.long (c.of-key.ensures ∙ p.named)) ∙ (λ i. record { label = p.labelled i; name = (c.of-key.ensures ∙ p.named) i } ∷ known bs s),
+      note_known bs s t _ _ name c.note.ensures room (sym (free.1 ∙ p.named)) ∙ (λ i. record { label = p.labelled i; name = (free.1 ∙ p.named) i } ∷ known bs s),
       omega (arith, ap length p.named, name_length rest (good_parts rest p.long)),
     )
