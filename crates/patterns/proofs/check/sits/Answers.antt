@@ -1,12 +1,9 @@
 -- What stands before an element holds it as the whole list does.
-use Rattle.std.proofs.Common.{◌≡◌, ℕ, zero, suc, ◌+◌, ◌<◌, ◌≤◌, ltb, cond, List, length, take, refl, ap, sym, ◌∙◌, arith, length-take-le, get_or-take}
-use Rattle.std.proofs.lemmas.Bool.{leb-true, le-leb}
-use Rattle.std.proofs.lemmas.Bool.Decides.{nat_tests}
+use Rattle.std.proofs.Common.{◌≡◌, ℕ, zero, suc, ◌+◌, ◌<◌, ◌≤◌, ltb, cond, List, length, take, refl, ap, ◌∙◌, arith, length-take-le, get_or-take}
 use Rattle.patterns.specs.declared.row.Element.{Element}
 use Rattle.patterns.specs.declared.row.Element.TheVariants.{Lexeme}
 use Rattle.patterns.specs.Elements.{extent, ends, around}
 use Rattle.patterns.proofs.check.sits.Goals as goal
-use Rattle.patterns.proofs.check.sits.Goals.{then-is_sized, else-is_sized, then-end-elements, else-end-elements}
 
 ends_before : (es : List Element) (i g : ℕ) → g < i → ends (take i es) g ≡ ends es g
 ends_before es i g h = ap (λ a. g + extent a) (get_or-take i es g (Lexeme 0) h)
@@ -28,22 +25,26 @@ module _ (es : List Element) (i : ℕ) (h : i < length es) where
       let e = ends_before es i g k in
       omega (arith, e, whole, n g (omega (arith, whole)) (omega (arith, whole, e)))
 
-pub returns-then-is_nested : goal.returns-then-is_nested
-returns-then-is_nested c =
+  nested_from : (end : ℕ) → ((g : ℕ) → g < i → i < ends es g → end ≤ ends es g) → (g : ℕ) → g < length (take i es) → length (take i es) < ends (take i es) g → end ≤ ends (take i es) g
+  nested_from end n g k l =
+      let b : g < i = omega (arith, whole, k) in
+      let e = ends_before es i g b in
+      omega (arith, e, n g b (omega (arith, whole, e, l)))
+
+pub returns-then-end-elements : goal.returns-then-end-elements
+returns-then-end-elements c =
     let es = c.args.elements.now in
     let i = c.args.i in
     let a = around_is es i c.requires in
-    elim c.if-end-elements.branch [
-      | then-end-elements w ↦
-          let z = c.is_sized.ensures.0 w.if-end-elements.true.0 in (
-            λ t. record {
-              numbered = z.0;
-              sized = z.1;
-              inside = omega (arith, c.extent.ensures.value, w.if-end-elements.true.1);
-              nested = λ g k l. omega (arith, c.extent.ensures.value, nested_is es i c.requires (i + c.extent.result) (w.is_nested.ensures.0 (sym w.value-is ∙ c.if-is_nested.true)) g k l);
-              shallow = omega (arith, a, c.groups_around.ensures, leb-true _ _ t);
-            },
-            λ s. le-leb _ _ (omega (arith, a, c.groups_around.ensures, s.shallow)),
-          )
-      | else-end-elements w ↦ elim c.if-is_sized.branch [ then-is_sized v ↦ absurd (grind (arith, nat_tests)) | else-is_sized v ↦ absurd (grind (arith, nat_tests)) ]
-    ]
+    let z = c.is_sized.ensures.0 c.if-end-elements.true.0 in (
+      λ t.
+          let n = c.is_nested.ensures.0 t in
+          record {
+            numbered = z.0;
+            sized = z.1;
+            inside = omega (arith, c.extent.ensures.value, c.if-end-elements.true.1);
+            nested = λ g k l. omega (arith, c.extent.ensures.value, nested_is es i c.requires (i + c.extent.result) n.0 g k l);
+            shallow = omega (arith, a, n.1);
+          },
+      λ s. c.is_nested.ensures.1 (nested_from es i c.requires (i + c.extent.result) (λ g k l. omega (arith, c.extent.ensures.value, s.nested g k l)), omega (arith, a, s.shallow)),
+    )
