@@ -58,10 +58,7 @@ impl<'a, W: Write> Desk<'a, W> {
         match Command::read(self.heap, line)? {
             Command::Book(bytes) => self.set_book(bytes)?,
             Command::Label(label, name) => self.add_label(label, name)?,
-            Command::CheckBook => {
-                let records = labels::check(self.book.as_slice())?;
-                self.print_count(records, "records")?;
-            }
+            Command::CheckBook => self.check_book()?,
             Command::Name(label) => self.print_name(label)?,
             Command::Image(bytes) => self.set_store(Store::Image(bytes))?,
             Command::Outline(records) => self.set_store(Store::Outline(records))?,
@@ -90,7 +87,7 @@ impl<'a, W: Write> Desk<'a, W> {
     }
 
     // Writes how many there are of something that was checked.
-    fn print_count(&mut self, count: usize, what: &str) -> io::Result<()> {
+    pub(crate) fn print_count(&mut self, count: usize, what: &str) -> io::Result<()> {
         writeln!(self.out, "ok {count} {what}")
     }
 }

@@ -1,62 +1,90 @@
 // A pattern text, and what it finds in trees of any make.
 use crate::failure::Failure;
-use matching::{Match, match_at};
-use patterns::Pattern;
+use matching::match_at;
 use patterns::limits::MAX_VARIABLES;
+use patterns::{Element, Pattern};
 use std::alloc::{AllocError, Global};
-use std::io;
 use std::io::Write;
+use std::{array, io};
 use texts::pattern::{read_pattern, variable_name};
 use trees::Tree;
 
-/// A pattern, and the names of its variables.
+/// A pattern, and the text that it was read from.
 #[derive(Drop)]
 pub(crate) struct Search<'a> {
     pattern: Pattern,
-    names: Vec<&'a [u8]>,
+    text: &'a [u8],
+}
+
+// The number of a variable.
+fn number_of(element: &Element) -> Option<usize> {
+    match element {
+        Element::Variable { number, .. } => Some(usize::from(*number)),
+        Element::Lexeme(_) | Element::Group { .. } => None,
+    }
+}
+
+// Writes names, each with the place behind it.
+fn print_bindings<W: Write>(
+    out: &mut W,
+    names: &[&[u8]],
+    places: &[Option<usize>],
+) -> io::Result<()> {
+    let mut bound = names
+        .iter()
+        .zip(places)
+        .filter_map(|(name, place)| Some((name, (*place)?)))
+        .peekable();
+    if bound.peek().is_none() {
+        return out.write_all(b"no variable");
+    }
+    for (number, (name, place)) in bound.enumerate() {
+        if number > 0 {
+            out.write_all(b", ")?;
+        }
+        out.write_all(name)?;
+        write!(out, " {place}")?;
+    }
+    Ok(())
 }
 
 impl<'a> Search<'a> {
     /// Reads a pattern text by a label book.
-    pub(crate) fn read(heap: Global, book: &[u8], text: &'a [u8]) -> Result<Search<'a>, Failure> {
+    #[inline(never)]
+    pub(crate) fn read(book: &[u8], text: &'a [u8]) -> Result<Search<'a>, Failure> {
         let pattern = read_pattern(book, text)?;
-        let names = (0..MAX_VARIABLES)
-            .map_while(|number| variable_name(text, number))
-            .collect(heap)?;
-        Ok(Search { pattern, names })
+        Ok(Search { pattern, text })
+    }
+
+    // How many variables the pattern has; they are numbered from 0.
+    fn variables(&self) -> usize {
+        let elements = self.pattern.elements();
+        let last = elements.iter().filter_map(number_of).max();
+        last.map_or(0, |number| number.saturating_add(1))
+    }
+
+    // The names of the variables. Each is looked for in the text, so this is asked only where they are written.
+    fn names(&self) -> [&'a [u8]; MAX_VARIABLES] {
+        let variables = self.variables();
+        array::from_fn(|number| {
+            if number < variables {
+                variable_name(self.text, number).unwrap_or(b"")
+            } else {
+                b""
+            }
+        })
     }
 
     /// Writes how many elements the pattern has, and the names of its variables.
     pub(crate) fn print<W: Write>(&self, out: &mut W) -> io::Result<()> {
         let elements = self.pattern.count();
-        let variables = self.names.len();
+        let variables = self.variables();
         write!(out, "ok {elements} elements, {variables} variables")?;
-        for (number, name) in self.names.iter().enumerate() {
+        for (number, name) in self.names().iter().enumerate().take(variables) {
             out.write_all(if number == 0 { b": " } else { b" " })?;
             out.write_all(name)?;
         }
         out.write_all(b"\n")
-    }
-
-    // Writes the place of each variable that has one.
-    fn print_bindings<W: Write>(&self, out: &mut W, found: &Match) -> io::Result<()> {
-        let mut bound = self
-            .names
-            .iter()
-            .zip(found.places)
-            .filter_map(|(name, place)| Some((name, place?)))
-            .peekable();
-        if bound.peek().is_none() {
-            return out.write_all(b"no variable");
-        }
-        for (number, (name, place)) in bound.enumerate() {
-            if number > 0 {
-                out.write_all(b", ")?;
-            }
-            out.write_all(name)?;
-            write!(out, " {place}")?;
-        }
-        Ok(())
     }
 
     /// Writes the bindings of a match at a place, and the steps.
@@ -68,17 +96,26 @@ impl<'a> Search<'a> {
     ) -> Result<(), Failure> {
         let found = match_at(tree, &self.pattern, place)?;
         out.write_all(b"ok ")?;
-        self.print_bindings(out, &found)?;
+        print_bindings(out, &self.names(), &found.places)?;
         let steps = found.steps;
         writeln!(out, " in {steps} steps")?;
         Ok(())
     }
 
-    // Each place of a tree at which the pattern matches, and the match.
-    fn matches<T: Tree>(&self, heap: Global, tree: &T) -> Result<Vec<(usize, Match)>, AllocError> {
-        (0..tree.places())
-            .filter_map(|place| Some((place, match_at(tree, &self.pattern, place).ok()?)))
-            .collect(heap)
+    // For each place of a tree at which the pattern matches a row, one behind the other: the place, and that of each variable.
+    // A row has no more room than its variables need, so that many findings take little memory.
+    fn rows<T: Tree>(&self, heap: Global, tree: &T) -> Result<Vec<Option<usize>>, AllocError> {
+        let variables = self.variables();
+        let mut rows = Vec::new(heap);
+        for place in 0..tree.places() {
+            if let Ok(found) = match_at(tree, &self.pattern, place) {
+                rows.push(Some(place))?;
+                for bound in found.places.iter().take(variables) {
+                    rows.push(*bound)?;
+                }
+            }
+        }
+        Ok(rows)
     }
 
     /// Writes each place at which the pattern matches, with its bindings.
@@ -88,13 +125,20 @@ impl<'a> Search<'a> {
         out: &mut W,
         tree: &T,
     ) -> io::Result<()> {
-        let matches = self.matches(heap, tree)?;
-        let count = matches.len();
+        let rows = self.rows(heap, tree)?;
+        let rows = rows.chunks(self.variables().saturating_add(1));
+        let count = rows.len();
         writeln!(out, "ok {count} found")?;
-        for (place, found) in &matches {
-            write!(out, "{place}: ")?;
-            self.print_bindings(out, found)?;
-            out.write_all(b"\n")?;
+        if count == 0 {
+            return Ok(());
+        }
+        let names = self.names();
+        for row in rows {
+            if let [Some(place), places @ ..] = row {
+                write!(out, "{place}: ")?;
+                print_bindings(out, &names, places)?;
+                out.write_all(b"\n")?;
+            }
         }
         Ok(())
     }

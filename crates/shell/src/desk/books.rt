@@ -34,6 +34,15 @@ impl<W: Write> Desk<'_, W> {
         writeln!(self.out, "ok book of {count} bytes")
     }
 
+    // Apart from the function that answers a line, which would have the index of a book in its frame at each call: so are all that open one.
+    #[inline(never)]
+    pub(crate) fn check_book(&mut self) -> Result<(), Failure> {
+        let records = labels::check(self.book.as_slice())?;
+        self.print_count(records, "records")?;
+        Ok(())
+    }
+
+    #[inline(never)]
     pub(crate) fn print_name(&mut self, label: u16) -> Result<(), Failure> {
         let name = labels::name_of(self.book.as_slice(), label)?;
         self.out.write_all(b"ok ")?;

@@ -30,6 +30,7 @@ impl<W: Write> Desk<'_, W> {
     }
 
     // Reads tree text; a refusal leaves the tree that stood.
+    #[inline(never)]
     pub(crate) fn set_tree(&mut self, text: &[u8]) -> Result<(), Failure> {
         let room = self.take_room(OUTLINE_ROOM);
         let mut records = vec![in self.heap; NO_RECORD; room]?;
@@ -39,6 +40,7 @@ impl<W: Write> Desk<'_, W> {
         Ok(())
     }
 
+    #[inline(never)]
     pub(crate) fn show(&mut self) -> Result<(), Failure> {
         let (book, _) = Book::open(self.book.as_slice());
         let tree = tree_of(&mut self.store)?;
