@@ -34,12 +34,22 @@ fn time_check(rt: &HostRuntime, book: &[u8], repeats: u32) -> anyhow::Result<()>
     Ok(())
 }
 
+// How many checks are to be timed: what the first argument says, or none.
+fn read_repeats(rt: &HostRuntime) -> anyhow::Result<u32> {
+    match env::args(rt)?.nth(1) {
+        Some(word) => Ok(word.as_str().parse()?),
+        None => Ok(0),
+    }
+}
+
 fn main(rt: HostRuntime) -> anyhow::Result<()> {
+    // The argument is read first, so that a faulty one leaves nothing printed.
+    let repeats = read_repeats(&rt)?;
     let book = large_book(rt.alloc())?;
     let records = labels::check(book.as_slice())?;
     println!(rt; "a book of {} bytes has {records} records", book.len())?;
-    if let Some(word) = env::args(&rt)?.nth(1) {
-        time_check(&rt, book.as_slice(), word.as_str().parse()?)?;
+    if repeats > 0 {
+        time_check(&rt, book.as_slice(), repeats)?;
     }
     Ok(())
 }

@@ -2,7 +2,6 @@
 #![tactic(auto)]
 
 use refusals::Refusal;
-use std::alloc::{AllocError, Global};
 use std::io;
 use std::io::{BufWriter, Write};
 
@@ -32,20 +31,16 @@ fn changed(at: usize, value: u8) -> [u8; 18] {
     book
 }
 
-// What the book is answered with each value of a byte.
-fn answers(heap: Global, at: usize) -> Result<Vec<(u8, Result<usize, Refusal>)>, AllocError> {
-    (0..=255u8)
-        .map(|value| (value, labels::check(&changed(at, value))))
-        .collect(heap)
-}
-
 // One line for each run of values of a byte that are answered alike.
-fn change_byte<W: Write>(heap: Global, out: &mut W, at: usize) -> io::Result<()> {
-    let mut answers = answers(heap, at)?;
-    answers.dedup_by_key(|(_, answer)| *answer);
-    for (first, answer) in &answers {
-        write!(out, "byte {at} from {first}: ")?;
-        print_answer(out, *answer)?;
+fn change_byte<W: Write>(out: &mut W, at: usize) -> io::Result<()> {
+    let mut last = None;
+    for value in 0..=255u8 {
+        let answer = labels::check(&changed(at, value));
+        if last != Some(answer) {
+            write!(out, "byte {at} from {value}: ")?;
+            print_answer(out, answer)?;
+            last = Some(answer);
+        }
     }
     Ok(())
 }
@@ -57,7 +52,7 @@ fn main(rt: HostRuntime) -> anyhow::Result<()> {
         print_answer(&mut out, labels::check(&BOOK[0..length]))?;
     }
     for at in 0..BOOK.len() {
-        change_byte(rt.alloc(), &mut out, at)?;
+        change_byte(&mut out, at)?;
     }
     out.flush()?;
     Ok(())
