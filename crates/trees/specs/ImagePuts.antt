@@ -1,5 +1,5 @@
 -- A label stored in an image's bytes.
-use Rattle.std.specs.Prelude.{◌≡◌, ℕ, ◌+◌, ◌*◌, ◌/◌, ◌%◌, ◌<◌, true, ◌≢◌, List, length, get_or, set, Option, is_none, is_ok, slice_index, slice_index_or, slice_set}
+use Rattle.std.specs.Prelude.{◌≡◌, ℕ, ◌+◌, ◌*◌, ◌/◌, ◌%◌, ◌<◌, true, ◌≢◌, List, length, get_or, set, Option, is_none, is_ok, slice_index, slice_index_or, slice_set, ◌≤◌, None}
 use Rattle.std.specs.Option.{ForSome}
 use Rattle.std.proofs.Common.{ap, sym, ◌∙◌, ⊎_elim, arith, length-set, get_or-set_same, get_or-set_other}
 use Rattle.std.proofs.lemmas.List.{ext_get_or, get_or_past}
@@ -7,7 +7,7 @@ use Rattle.std.proofs.lemmas.Bool.{cases_eq, cases_lt}
 use Rattle.trees.specs.Forest.{Law, no_node, with_label, size_at, relabel}
 use Rattle.trees.specs.Scan.{kept}
 use Rattle.trees.specs.Images.{length_in, label_in, node_in, image_nodes, around, inner_end, image_answer}
-use Rattle.trees.specs.Leaves.{kept_law}
+use Rattle.trees.specs.Leaves.{kept_law, sound_kept}
 use Rattle.trees.specs.Opens.{around_sized}
 use Rattle.trees.specs.Imaging.{many, at, FitsAt, taken, takes, image_law}
 
@@ -114,3 +114,6 @@ sound_stored bs cs p l h r s =
 -- no leaf is held beside an image
 pub image_kept : (leaf : Option ℕ) (bs : List ℕ) → is_none leaf ≡ is_ok (image_answer bs) → ForSome leaf (λ l. l < 32768) → Law (kept leaf (image_nodes bs))
 image_kept leaf bs e h = kept_law leaf (image_nodes bs) (λ t. image_law bs (taken bs (sym e ∙ t))) h
+
+pub few_kept : (leaf : Option ℕ) (bs : List ℕ) → leaf ≡ None → is_none leaf ≡ is_ok (image_answer bs) → length bs / 6 ≤ 4096
+few_kept leaf bs e f = omega (arith, (image_law bs (taken bs (sound_kept leaf _ e f))).few_nodes, many bs)

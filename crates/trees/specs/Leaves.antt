@@ -2,7 +2,7 @@
 use Rattle.std.specs.Prelude.{◌≡◌, ℕ, zero, suc, ◌<◌, Bool, true, length, Some, None, Option, is_none, refl}
 use Rattle.std.specs.Option.{ForSome}
 use Rattle.std.proofs.Common.{ap, sym, ◌∙◌, arith}
-use Rattle.trees.specs.Forest.{Forest, Law, label_at}
+use Rattle.trees.specs.Forest.{Forest, Law, label_at, relabel}
 use Rattle.trees.specs.Scan.{leaf, kept}
 
 leaf_labels : (l p : ℕ) → l < 32768 → p < 1 → label_at (leaf l) p < 32768
@@ -32,3 +32,8 @@ length_kept leaf m e = ap length (kept_none leaf m e)
 
 pub sound_kept : (leaf : Option ℕ) (sound : Bool) → leaf ≡ None → is_none leaf ≡ sound → sound ≡ true
 sound_kept leaf sound e f = sym f ∙ ap is_none e
+
+-- the leaf takes the label
+pub leaf_put : (m : Forest) (l p k : ℕ) → p < length (kept (Some l) m) → kept (Some k) m ≡ relabel (kept (Some l) m) p k
+leaf_put m l zero k h = refl
+leaf_put m l (suc p) k h = absurd (omega arith)

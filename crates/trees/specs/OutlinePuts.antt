@@ -1,5 +1,5 @@
 -- A label stored in an outline's records.
-use Rattle.std.specs.Prelude.{◌≡◌, ℕ, zero, suc, ◌+◌, ◌<◌, true, cond, List, [], ◌∷◌, length, get_or, None, Option, is_none, is_ok, nat_lt, slice_index_or, slice_set, refl}
+use Rattle.std.specs.Prelude.{◌≡◌, ℕ, zero, suc, ◌+◌, ◌<◌, true, cond, List, [], ◌∷◌, length, get_or, ◌≤◌, None, Option, is_none, is_ok, nat_lt, slice_index_or, slice_set, refl}
 use Rattle.std.specs.Option.{ForSome}
 use Rattle.std.proofs.Common.{ap, sym, ◌∙◌, arith, length-set}
 use Rattle.trees.specs.declared.record.Record.{Record}
@@ -7,8 +7,8 @@ use Rattle.trees.specs.Forest.{Law, relabel}
 use Rattle.trees.specs.Scan.{kept}
 use Rattle.trees.specs.Outlines.{no_record, depth_limit, deeper, outline_nodes, outline_answer}
 use Rattle.trees.specs.Faults.{Fine, Accepted, accepted, accepts}
-use Rattle.trees.specs.Outlining.{outline_law}
-use Rattle.trees.specs.Leaves.{kept_law, kept_none}
+use Rattle.trees.specs.Outlining.{outline_law, length_nodes}
+use Rattle.trees.specs.Leaves.{kept_law, kept_none, sound_kept}
 
 abbrev pub stored : List Record → ℕ → ℕ → List Record
 stored rs p l = slice_set rs p (record { depth = (get_or rs p no_record).depth; label = l })
@@ -67,6 +67,9 @@ sound_stored rs p l h s = ap is_ok (accepts (stored rs p l) (accepted_stored rs 
 -- no leaf is held beside an outline
 pub outline_kept : (leaf : Option ℕ) (rs : List Record) → is_none leaf ≡ is_ok (outline_answer rs) → ForSome leaf (λ l. l < 32768) → Law (kept leaf (outline_nodes rs))
 outline_kept leaf rs e h = kept_law leaf (outline_nodes rs) (λ t. outline_law rs (accepted rs (sym e ∙ t))) h
+
+pub few_kept : (leaf : Option ℕ) (rs : List Record) → leaf ≡ None → is_none leaf ≡ is_ok (outline_answer rs) → length rs ≤ 4096
+few_kept leaf rs e f = omega (arith, (outline_law rs (accepted rs (sound_kept leaf _ e f))).few_nodes, length_nodes rs)
 
 pub put_kept : (leaf : Option ℕ) (rs : List Record) (p l : ℕ) → leaf ≡ None → kept leaf (outline_nodes (stored rs p l)) ≡ relabel (kept leaf (outline_nodes rs)) p l
 put_kept leaf rs p l e = kept_none leaf (outline_nodes (stored rs p l)) e ∙ nodes_stored rs p l ∙ ap (λ m. relabel m p l) (sym (kept_none leaf (outline_nodes rs) e))

@@ -1,6 +1,6 @@
 -- The forest between two places, and what a tree's sizes say of it.
 use Rattle.std.specs.Prelude.{◌≡◌, ℕ, zero, suc, ◌+◌, ◌-◌, ◌<◌, ◌≤◌, [], ◌∷◌, length, take, drop, slice_index_or, slice_range}
-use Rattle.std.proofs.Common.{sym, ap, ◌∙◌, subst, ⊎_elim, arith, drop-cons, take-take, drop-drop}
+use Rattle.std.proofs.Common.{sym, ap, ◌∙◌, subst, ⊎_elim, arith, length-take, drop-cons, take-take, drop-drop}
 use Rattle.std.proofs.lemmas.List.{drop-take}
 use Rattle.std.proofs.lemmas.Bool.{cases_eq}
 use Rattle.trees.specs.Forest.{Forest, Law, size_at, subtree, no_node}
@@ -26,6 +26,9 @@ win_drop m p q e h k =
     let z : e - p ≡ (q - p) + (e - q) = omega arith in
     let y : p + (q - p) ≡ q = omega arith in
     rw z (drop-take (q - p) (e - q) (drop p m) ∙ ap (take (e - q)) (drop-drop (q - p) p m ∙ ap (λ (i : ℕ). drop i m) y))
+
+pub length_win : (m : Forest) (p e : ℕ) → length (win m p e) ≤ e - p
+length_win m p e = simp length-take (omega arith)
 
 -- what a law says of the sizes alone
 pub record Sound (m : Forest) : Type 0 where
