@@ -25,6 +25,8 @@ use refusals::{Cause, Layer, Refusal};
 use trees::Tree;
 
 /// Matches a pattern at a place of a tree: the bindings and the steps.
+// Inlined, so that a caller that asks only whether there is a match does not wait for the bindings to be moved.
+#[inline(always)]
 pub fn match_at<T: Tree>(tree: &T, pattern: &Pattern, place: usize) -> Result<Match, Refusal>
     ensures answer { result ≡ match_answer (T.Meant.meaning tree.now) (elements_of pattern.now.row) place }
     ensures laws { MatchLaws (T.Meant.meaning tree.now) (elements_of pattern.now.row) place result }
